@@ -2,7 +2,7 @@
 
 use crate::transport::Own;
 use rtp_media::{
-    Codec, CodecConfig, End, EndError, ExchangeError, FormatParams, SectionSpec, Session,
+    Codec, CodecConfig, End, EndError, ExchangeError, FormatParams, SectionSpec, Session, are_sound,
 };
 use rtp_media_browsers::{
     BrowserError, Plan, Wish, answer_for_end, for_browser, for_end, sections_for,
@@ -21,6 +21,9 @@ pub(crate) enum CallError {
     /// The end refuses it.
     #[error("the end: {0}")]
     Exchange(ExchangeError),
+    /// The repairs of a section don't fit its SSRCs.
+    #[error("the repairs of a section don't fit its SSRCs")]
+    Unsound,
     /// Out of memory.
     #[error("out of memory")]
     Memory,
@@ -82,8 +85,11 @@ impl Call {
     pub(crate) fn answer(&mut self, offer: &str, wishes: &[Wish]) -> Result<String, CallError> {
         let alloc = self.alloc;
         let before = self.plan.clone(alloc)?;
-        let text = for_end(alloc, &mut self.plan, offer, wishes)?;
         let sections = sections_for(alloc, offer, wishes)?;
+        if !are_sound(sections.as_slice()) {
+            return Err(CallError::Unsound);
+        }
+        let text = for_end(alloc, &mut self.plan, offer, wishes)?;
         match self.end.answer(text.as_str(), sections) {
             Ok(answer) => self.dressed(answer.as_str(), self.own.setup),
             Err(error) => {
@@ -95,6 +101,9 @@ impl Call {
 
     /// The end's offer as the browser gets it.
     pub(crate) fn offer(&mut self, sections: Vec<SectionSpec>) -> Result<String, CallError> {
+        if !are_sound(sections.as_slice()) {
+            return Err(CallError::Unsound);
+        }
         let offer = self.end.offer(sections)?;
         self.dressed(offer.as_str(), Setup::ActPass)
     }

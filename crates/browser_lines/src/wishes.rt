@@ -5,15 +5,29 @@ use rtp_media_browsers::Wish;
 use rtp_wire::{Direction, Mid, Ssrc};
 use std::alloc::{AllocError, Global};
 
-/// The SSRCs of words with commas between; none of an empty word, or of one that isn't numbers.
+/// The SSRCs of words with commas between, as `44` or `44+45`, where 45 repairs 44; none of an empty word, or of one
+/// that isn't numbers.
 fn ssrcs(alloc: Global, word: &str) -> Result<Vec<Ssrc>, AllocError> {
     let mut ssrcs = Vec::new(alloc);
-    for number in word.split(',') {
+    for source in word.split(',') {
+        let (number, _) = source.split_once('+').unwrap_or((source, ""));
         if let Ok(ssrc) = number.parse::<u32>() {
             ssrcs.push(Ssrc::from(ssrc))?;
         }
     }
     Ok(ssrcs)
+}
+
+/// The pairs of an SSRC and that of its repairs among such words.
+fn repairs(alloc: Global, word: &str) -> Result<Vec<(Ssrc, Ssrc)>, AllocError> {
+    let mut repairs = Vec::new(alloc);
+    for source in word.split(',') {
+        let (number, repair) = source.split_once('+').unwrap_or((source, ""));
+        if let (Ok(ssrc), Ok(repair)) = (number.parse::<u32>(), repair.parse::<u32>()) {
+            repairs.push((Ssrc::from(ssrc), Ssrc::from(repair)))?;
+        }
+    }
+    Ok(repairs)
 }
 
 /// `reject`, or a direction with SSRCs behind a colon, as `sendrecv:44,45`.
@@ -25,6 +39,7 @@ fn wish(alloc: Global, word: &str) -> Result<Wish, AllocError> {
     Ok(Wish::Accept {
         direction: Direction::from(direction),
         ssrcs: ssrcs(alloc, numbers)?,
+        repairs: repairs(alloc, numbers)?,
     })
 }
 
@@ -51,6 +66,7 @@ fn section(alloc: Global, word: &str) -> Result<SectionSpec, AllocError> {
         },
         dir: Direction::from(direction),
         ssrcs: ssrcs(alloc, numbers)?,
+        repairs: repairs(alloc, numbers)?,
     })
 }
 

@@ -16,7 +16,7 @@ use Rattle.rtp_media_browsers.specs.declared.wish.Wish.{Wish}
 use Rattle.rtp_media_browsers.specs.declared.wish.Wish.TheVariants.{Accept, Reject}
 
 abbrev pub is_accepted : Option Wish → Bool
-is_accepted (Some (Accept direction ssrcs)) = true
+is_accepted (Some (Accept direction ssrcs repairs)) = true
 is_accepted _ = false
 
 -- Whether port 0 only says that the section has no transport of its own: it is in the bundle, and says so (RFC 9143 6).

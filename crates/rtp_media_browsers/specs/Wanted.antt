@@ -9,8 +9,13 @@ use Rattle.rtp_media_browsers.specs.declared.wish.Wish.TheVariants.{Accept}
 
 -- A section as it is wished for.
 abbrev pub wished : Option Wish → MediaLine → List Wanted
-wished (Some (Accept direction ssrcs)) m =
-    record { mid = mid_of m; kind = kind_of m.typ; dir = direction; ssrcs = ssrcs.items } ∷ []
+wished (Some (Accept direction ssrcs repairs)) m = record {
+  mid = mid_of m;
+  kind = kind_of m.typ;
+  dir = direction;
+  ssrcs = ssrcs.items;
+  repairs = repairs.items;
+} ∷ []
 wished _ m = []
 
 abbrev pub wanted : List (List ℕ) → Option Wish → MediaLine → List Wanted

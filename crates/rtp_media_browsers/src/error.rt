@@ -44,8 +44,8 @@ pub enum BrowserError {
     /// The password of ICE isn't 22 to 256 letters, digits, `+` and `/`.
     #[error("the password of ICE doesn't fit")]
     PasswordNotFit,
-    /// The part in the connection isn't the one that was answered before, or is the browser's own; or it is left open in
-    /// an answer.
+    /// The part in the connection isn't the one that was answered before, or is the browser's own; or it is left open
+    /// in an answer.
     #[error("the setup doesn't fit")]
     SetupNotFit,
     /// The text would not be read as what it has to say.

@@ -20,12 +20,19 @@ fn push_wished(
     ensures { OnOk result (specs.new.items ≡ specs.old.items ++ wished (option_copied wish.entry) section.now) }
 {
     match wish {
-        Some(Wish::Accept { direction, ssrcs }) => {
+        Some(
+            Wish::Accept {
+                direction,
+                ssrcs,
+                repairs,
+            },
+        ) => {
             specs.push(SectionSpec {
                 mid: mid_of(section),
                 kind: kind_of(&section.typ),
                 dir: *direction,
                 ssrcs: ssrcs.clone()?,
+                repairs: repairs.clone()?,
             })?;
             Ok(())
         }

@@ -15,6 +15,8 @@ pub enum Wish {
         direction: Direction,
         /// The SSRCs that the end sends under (RFC 5576 4.1).
         ssrcs: Vec<Ssrc>,
+        /// Pairs of one of them and the SSRC under which its datagrams are sent again (RFC 4588 8.3).
+        repairs: Vec<(Ssrc, Ssrc)>,
     },
     /// The section is rejected (RFC 8829 5.3.1).
     Reject,

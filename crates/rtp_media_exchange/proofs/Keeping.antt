@@ -1,9 +1,11 @@
 -- What holds of an end at any time.
-use Rattle.std.proofs.Common.{◌≡◌, ◌<◌, ◌^◌, ◌==◌, ◌&&◌, ◌||◌, ◌++◌, ℕ, suc, Bool, true, false, not, cond, List, [], ◌∷◌}
-use Rattle.std.proofs.Common.{Option, Some, None, Ok, refl, map, subst, arith, inl}
+use Rattle.std.proofs.Common.{◌≡◌, ◌<◌, ◌^◌, ◌==◌, ◌&&◌, ◌||◌, ◌++◌, ℕ, suc, Bool, true, false, not, cond}
+use Rattle.std.proofs.Common.{List, [], ◌∷◌, length, Option, Some, None, Ok, refl, map, subst, arith, inl}
 use Rattle.std.specs.List.{list_all, list_any}
 use Rattle.std.specs.Option.{option_map}
 use Rattle.std.proofs.lemmas.Bool.Decides.{nat_tests}
+use Rattle.rtp_wire.specs.Maps.{empty_map}
+use Rattle.rtp_wire.specs.Values.{Numbering}
 use Rattle.sdp_formats_laws.proofs.Lists.{neither}
 use Rattle.sdp_formats_laws.specs.PrintedParameters.{RowsAreAsPlainAsTheirOthers}
 use Rattle.sdp_formats_data.specs.declared.session.Sdp.{Sdp}
@@ -14,6 +16,7 @@ use Rattle.sdp_formats_rounds.specs.Members.{IsEach}
 use Rattle.sdp_formats_rounds.specs.Ranges.{IsSized}
 use Rattle.rtp_media_section_laws.specs.ReadRounds.{ReadSectionsKeepRows}
 use Rattle.rtp_media_sections.specs.DefaultRows.{opus_row}
+use Rattle.rtp_media_sections.specs.Extensions.{is_writable_map}
 use Rattle.rtp_media_sections.specs.Lines.{remote_of, types_listed}
 use Rattle.rtp_media_sections.specs.Plain.{is_plain}
 use Rattle.rtp_media_sections.specs.Rows.{Row}
@@ -21,7 +24,6 @@ use Rattle.rtp_media_sections.specs.Sections.{Section}
 use Rattle.rtp_media_exchange.specs.Exchanges.{IsKept, bare_session, fixed}
 use Rattle.rtp_media_exchange.specs.Refusals.{first_repeated, is_among, row_refusal, types_refusal}
 use Rattle.rtp_media_exchange.specs.Says.{SaysSections}
-use Rattle.rtp_media_exchange.specs.declared.errors.EndError.{EndError}
 use Rattle.rtp_media_exchange.specs.declared.errors.EndError.TheVariants as fault
 
 -- rows of which none is refused are plain
@@ -76,11 +78,14 @@ none_repeated None e = refl
 none_repeated (Some t) e = absurd (cc e)
 
 -- an end that was made
-pub new_kept : (session : Session) (rows : List Row) → session.id < 2 ^ 64 → IsWritableSession session
-    → row_refusal 0 rows ≡ None → types_refusal rows ≡ None → IsEach IsSized rows → IsKept session rows
-new_kept session rows id writable plain types sized = record {
+pub new_kept : (session : Session) (exts : Numbering) (rows : List Row) → session.id < 2 ^ 64
+    → IsWritableSession session → length exts ≡ 16 → is_writable_map exts ≡ true → row_refusal 0 rows ≡ None
+    → types_refusal rows ≡ None → IsEach IsSized rows → IsKept session exts rows
+new_kept session exts rows id writable numbers words plain types sized = record {
   id = id;
   writable = writable;
+  numbers = numbers;
+  words = words;
   printable = record {
     plain = rows_plain 0 rows plain;
     apart = (apart [] (types_listed rows) (none_repeated (first_repeated [] (types_listed rows)) types)).0;
@@ -89,11 +94,13 @@ new_kept session rows id writable plain types sized = record {
 }
 
 -- a fixed end
-pub fixed_kept : RowsAreAsPlainAsTheirOthers → IsKept (bare_session 0) fixed.config.rows
+pub fixed_kept : RowsAreAsPlainAsTheirOthers → IsKept (bare_session 0) empty_map fixed.config.rows
 unfolding fixed
 fixed_kept law = record {
   id = omega arith;
   writable = (tt, λ k d low. absurd (omega (arith, low)));
+  numbers = refl;
+  words = refl;
   printable = record {
     plain = λ i. law (record (opus_row false) { locked = true }) (omega arith, tt, tt, tt, tt, tt, tt, tt, tt, tt)
         (inl (refl, refl)) i && true;
@@ -103,14 +110,16 @@ fixed_kept law = record {
 }
 
 -- an end after the rounds with the sections of a text
-pub rounds_kept : ReadSectionsKeepRows → (session : Session) (rows after : List Row) (text : List ℕ)
-    (sections : List Section) → SaysSections text sections → rounds (map remote_of sections) rows ≡ Ok after
-    → IsKept session rows → IsKept session after
-rounds_kept law session rows after text sections says settled kept =
+pub rounds_kept : ReadSectionsKeepRows → (session : Session) (exts : Numbering) (rows after : List Row)
+    (text : List ℕ) (sections : List Section) → SaysSections text sections
+    → rounds (map remote_of sections) rows ≡ Ok after → IsKept session exts rows → IsKept session exts after
+rounds_kept law session exts rows after text sections says settled kept =
     let said : Sdp = record { session = says.says.says.0; media_lines = says.lines } in
     record {
       id = kept.id;
       writable = kept.writable;
+      numbers = kept.numbers;
+      words = kept.words;
       printable = law text said says.says.says.1 says.says.says.2 rows after kept.printable
           (subst (λ (ss : List Section). rounds (map remote_of ss) rows ≡ Ok after) says.sections_are settled);
     }

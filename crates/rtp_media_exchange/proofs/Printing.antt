@@ -1,69 +1,35 @@
 -- The text of an answer says the sections that were printed.
-use Rattle.std.proofs.Common.{◌≡◌, ◌≢◌, ◌<◌, ◌^◌, ◌==◌, ◌&&◌, ◌||◌, ℕ, Bool, true, false, not, cond, List, [], ◌∷◌}
+use Rattle.std.proofs.Common.{◌≡◌, ◌≢◌, ◌==◌, ◌&&◌, ℕ, Bool, true, false, cond, List, [], ◌∷◌}
 use Rattle.std.proofs.Common.{length, map, Option, Some, None, refl, ◌∙◌, ap, sym, arith}
-use Rattle.std.specs.Prelude.{IsTrue, filter, find, is_some, replicate, zip}
+use Rattle.std.specs.Prelude.{IsTrue, find, zip}
 use Rattle.std.specs.List.{list_all, list_any}
-use Rattle.std.specs.Str.{bytes_eq}
 use Rattle.std.proofs.lemmas.Bool.{false≢true}
 use Rattle.std.proofs.lemmas.Bool.Decides.{nat_tests}
 use Rattle.std.proofs.lemmas.Slice.Eq.{bytes_eq-Decides}
 use Rattle.payload_core_base.specs.declared.codec.MediaKind.{MediaKind}
 use Rattle.payload_core_base.specs.declared.codec.MediaKind.TheVariants.{Audio, Video}
-use Rattle.rtp_wire.specs.Kinds.{uri_of}
-use Rattle.rtp_wire.specs.Maps.{empty_map, id_of}
 use Rattle.rtp_wire.specs.Values.{Numbering}
-use Rattle.rtp_wire.specs.declared.Extension.{Extension}
 use Rattle.sdp_formats_data.specs.PrintedSession.{sdp_text}
-use Rattle.sdp_formats_data.specs.declared.media.MediaLine.{MediaLine}
 use Rattle.sdp_formats_data.specs.declared.session.Sdp.{Sdp}
-use Rattle.sdp_formats_laws.proofs.Lists.{both, neither}
-use Rattle.sdp_formats_laws.specs.Printable.{IsWord}
+use Rattle.sdp_formats_laws.proofs.Lists.{neither}
 use Rattle.sdp_formats_rounds.specs.Members.{IsEach}
-use Rattle.rtp_media_section_laws.proofs.Entries.{entries_printable}
 use Rattle.rtp_media_section_laws.specs.PrintableSections.{AnsweredSectionsArePrintable, ArePrintable}
-use Rattle.rtp_media_section_laws.specs.PrintedSections.{IsPrintable, IsPrintableEntry, SaysRead, TextsSaySections}
+use Rattle.rtp_media_section_laws.specs.PrintableSections.{OfferedSectionsArePrintable}
+use Rattle.rtp_media_section_laws.specs.PrintedSections.{IsPrintable, SaysRead, TextsSaySections}
 use Rattle.rtp_media_section_laws.specs.PrintedSections.{as_read}
 use Rattle.rtp_media_sections.specs.Agreement.{agreed_by_answer}
 use Rattle.rtp_media_sections.specs.Answered.{answered_rows, answered_section}
-use Rattle.rtp_media_sections.specs.Extensions.{answered_extmaps, is_answered, is_numbered, is_word}
+use Rattle.rtp_media_sections.specs.Extensions.{is_writable_map}
+use Rattle.rtp_media_sections.specs.Kinds.{rows_of_kind}
 use Rattle.rtp_media_sections.specs.Rows.{Row}
 use Rattle.rtp_media_sections.specs.Sections.{Section, Wanted, corresponds, has_shape, is_wanted, same_kind}
 use Rattle.rtp_media_exchange.specs.Answering.{HasWidths, read_back}
 use Rattle.rtp_media_exchange.specs.Exchanges.{Exchanged, IsKept, answered_agreement}
-use Rattle.rtp_media_exchange.specs.Offers.{answer_of, answered_sections, sdp_of}
-use Rattle.rtp_media_exchange.specs.Refusals.{answers_none, is_nameless, is_unwritable, lists_unwritable, no_answer}
-use Rattle.rtp_media_exchange.specs.Refusals.{no_common_row_of, not_written}
+use Rattle.rtp_media_exchange.specs.Offers.{answer_of, answered_sections, offer_of, offered_sections, sdp_of}
+use Rattle.rtp_media_exchange.specs.Refusals.{answers_none, is_nameless, lists_none, no_answer, no_common_row_of}
+use Rattle.rtp_media_exchange.specs.Refusals.{no_row_of, not_written}
 use Rattle.rtp_media_exchange.specs.Says.{SaysSections}
-use Rattle.rtp_media_exchange.specs.declared.errors.ExchangeError.{ExchangeError}
 use Rattle.rtp_media_exchange.specs.declared.errors.ExchangeError.TheVariants as error
-
--- header extensions that can stand in their lines; each is as the one of a map
-word : (ext : Extension) → is_unwritable (0, ext) ≡ false → IsWord (uri_of ext)
-word ext e = at (is_word (uri_of ext)) refl e
-  where
-    at : (b : Bool) → is_word (uri_of ext) ≡ b → not b ≡ false → IsWord (uri_of ext)
-    at true is f = (entries_printable (Some ext ∷ replicate 15 None) (λ i. is i && true)).0.1
-    at false is f = absurd (false≢true (sym f))
-
-low : (n : ℕ) → is_numbered n ≡ true → n < 2 ^ 8
-low n e = grind (arith, nat_tests)
-
-extmaps_printable : (exts : Numbering) (offered : List (ℕ × Extension))
-    → list_any is_unwritable (answered_extmaps exts offered) ≡ false
-    → IsEach IsPrintableEntry (answered_extmaps exts offered)
-extmaps_printable exts [] e = tt
-extmaps_printable exts (x ∷ offered) e = at (is_answered exts x) refl e (extmaps_printable exts offered)
-  where
-    at : (b : Bool) → is_answered exts x ≡ b
-        → list_any is_unwritable (cond b (x ∷ answered_extmaps exts offered) (answered_extmaps exts offered)) ≡ false
-        → (list_any is_unwritable (answered_extmaps exts offered) ≡ false
-        → IsEach IsPrintableEntry (answered_extmaps exts offered))
-        → IsEach IsPrintableEntry (cond b (x ∷ answered_extmaps exts offered) (answered_extmaps exts offered))
-    at true is f later =
-        let two = neither (is_unwritable x) (list_any is_unwritable (answered_extmaps exts offered)) f in
-        let numbered = (both (is_numbered x.0) (is_some (id_of exts x.1)) is).0 in
-        ((low x.0 numbered, word x.1 two.0), later two.1)
-    at false is f later = later f
 
 -- a section with a name that answers an offered one
 some_name : (w : Wanted) → is_nameless w ≡ false → w.mid ≢ []
@@ -72,28 +38,21 @@ some_name w e = λ none. false≢true (sym e ∙ ap (λ (mid : List ℕ). length
 some_row : (rows : List Row) (o : Section) → answers_none rows o ≡ false → answered_rows rows o ≢ []
 some_row rows o e = λ none. false≢true (sym e ∙ ap (λ (rs : List Row). length rs == 0) none)
 
-one_printable : AnsweredSectionsArePrintable → (exts : Numbering) (rows : List Row) → ArePrintable rows → (w : Wanted)
+abbrev WithMap : Numbering → List Row → Type 0
+WithMap exts rows = (length exts ≡ 16) × (is_writable_map exts ≡ true) × ArePrintable rows
+
+one_printable : AnsweredSectionsArePrintable → (exts : Numbering) (rows : List Row) → WithMap exts rows → (w : Wanted)
     (o : Section) → HasWidths w → is_nameless w ≡ false → answers_none rows o ≡ false
-    → lists_unwritable (answered_section exts rows w o) ≡ false → IsPrintable (answered_section exts rows w o)
-unfolding answered_section
-one_printable law exts rows printable w o widths named lists words =
-    let rest = law empty_map rows w o (record {
-      numbers = refl;
-      writable = refl;
+    → IsPrintable (answered_section exts rows w o)
+one_printable law exts rows kept w o widths named lists =
+    law exts rows w o (record {
+      numbers = kept.0;
+      writable = kept.1;
       some_name = some_name w named;
       name = widths.0;
       ssrcs = widths.1;
-    }) printable (some_row rows o lists) in
-    record {
-      some_name = rest.some_name;
-      name = rest.name;
-      some_row = rest.some_row;
-      plain = rest.plain;
-      apart = rest.apart;
-      sized = rest.sized;
-      extmaps = extmaps_printable exts o.extmaps words;
-      sources = rest.sources;
-    }
+      repairs = widths.2;
+    }) kept.2 (some_row rows o lists)
 
 none_found : (rows : List Row) (o : Section) (os : List Section) → find (answers_none rows) (o ∷ os) ≡ None
     → (answers_none rows o ≡ false) × (find (answers_none rows) os ≡ None)
@@ -104,19 +63,16 @@ none_found rows o os e = at (answers_none rows o) e
     at true f = absurd (cc f)
     at false f = (refl, f)
 
-each_printable : AnsweredSectionsArePrintable → (exts : Numbering) (rows : List Row) → ArePrintable rows
+each_printable : AnsweredSectionsArePrintable → (exts : Numbering) (rows : List Row) → WithMap exts rows
     → (ws : List Wanted) (os : List Section) → IsEach HasWidths ws → list_any is_nameless ws ≡ false
-    → find (answers_none rows) os ≡ None → list_any lists_unwritable (answered_sections exts rows ws os) ≡ false
-    → IsEach IsPrintable (answered_sections exts rows ws os)
-each_printable law exts rows printable [] os widths named lists words = tt
-each_printable law exts rows printable (w ∷ ws) [] widths named lists words = tt
-each_printable law exts rows printable (w ∷ ws) (o ∷ os) widths named lists words =
+    → find (answers_none rows) os ≡ None → IsEach IsPrintable (answered_sections exts rows ws os)
+each_printable law exts rows kept [] os widths named lists = tt
+each_printable law exts rows kept (w ∷ ws) [] widths named lists = tt
+each_printable law exts rows kept (w ∷ ws) (o ∷ os) widths named lists =
     let names = neither (is_nameless w) (list_any is_nameless ws) named in
-    let found = none_found rows o os lists in
-    let written = neither (lists_unwritable (answered_section exts rows w o))
-    (list_any lists_unwritable (answered_sections exts rows ws os)) words in (
-      one_printable law exts rows printable w o widths.0 names.0 found.0 written.0,
-      each_printable law exts rows printable ws os widths.1 names.1 found.1 written.1,
+    let found = none_found rows o os lists in (
+      one_printable law exts rows kept w o widths.0 names.0 found.0,
+      each_printable law exts rows kept ws os widths.1 names.1 found.1,
     )
 
 none_lacks : (o : Option Section) → no_common_row_of o ≡ None → o ≡ None
@@ -140,18 +96,67 @@ of_read text sections read = record {
 }
 
 pub answer_says : AnsweredSectionsArePrintable → TextsSaySections → (x : Exchanged) (rows : List Row)
-    (wanted : List Wanted) (offer : List Section) → IsKept x.session rows → IsEach HasWidths wanted
-    → no_answer rows offer ≡ None → not_written wanted (answered_sections x.wanted rows wanted offer) ≡ None
-    → SaysSections (sdp_text (answer_of x rows wanted offer)) (map as_read (answered_sections x.wanted rows wanted offer))
+    (wanted : List Wanted) (offer : List Section) → IsKept x.session x.wanted rows → IsEach HasWidths wanted
+    → no_answer rows offer ≡ None → not_written wanted ≡ None
+    → SaysSections (sdp_text (answer_of x rows wanted offer))
+    (map as_read (answered_sections x.wanted rows wanted offer))
 unfolding answer_of
 answer_says printable texts x rows wanted offer kept widths listed written =
     let answer : List Section = answered_sections x.wanted rows wanted offer in
-    let two = neither (list_any is_nameless wanted) (list_any lists_unwritable answer)
-    (is_written (list_any is_nameless wanted || list_any lists_unwritable answer) written) in
+    let names = is_written (list_any is_nameless wanted) written in
     let lists = none_lacks (find (answers_none rows) offer) listed in
     of_read (sdp_text (sdp_of x.session answer)) (map as_read answer)
     (texts x.session answer kept.id kept.writable
-    (each_printable printable x.wanted rows kept.printable wanted offer widths two.0 lists two.1))
+    (each_printable printable x.wanted rows (kept.numbers, kept.words, kept.printable) wanted offer widths names lists))
+
+-- the text of an offer
+listed_row : (rows : List Row) (w : Wanted) → lists_none rows w ≡ false → rows_of_kind w.kind true rows ≢ []
+listed_row rows w e = λ none. false≢true (sym e ∙ ap (λ (rs : List Row). length rs == 0) none)
+
+none_listed : (rows : List Row) (w : Wanted) (ws : List Wanted) → find (lists_none rows) (w ∷ ws) ≡ None
+    → (lists_none rows w ≡ false) × (find (lists_none rows) ws ≡ None)
+none_listed rows w ws e = at (lists_none rows w) e
+  where
+    at : (b : Bool) → cond b (Some w) (find (lists_none rows) ws) ≡ None
+        → (b ≡ false) × (find (lists_none rows) ws ≡ None)
+    at true f = absurd (cc f)
+    at false f = (refl, f)
+
+each_offered : OfferedSectionsArePrintable → (exts : Numbering) (rows : List Row) → WithMap exts rows
+    → (ws : List Wanted) → IsEach HasWidths ws → list_any is_nameless ws ≡ false
+    → find (lists_none rows) ws ≡ None → IsEach IsPrintable (offered_sections exts rows ws)
+each_offered law exts rows kept [] widths named lists = tt
+each_offered law exts rows kept (w ∷ ws) widths named lists =
+    let names = neither (is_nameless w) (list_any is_nameless ws) named in
+    let found = none_listed rows w ws lists in (
+      law exts rows w (record {
+        numbers = kept.0;
+        writable = kept.1;
+        some_name = some_name w names.0;
+        name = widths.0.0;
+        ssrcs = widths.0.1;
+        repairs = widths.0.2;
+      }) kept.2 (listed_row rows w found.0),
+      each_offered law exts rows kept ws widths.1 names.1 found.1,
+    )
+
+none_without : (o : Option Wanted) → no_row_of o ≡ None → o ≡ None
+none_without None e = refl
+none_without (Some w) e = absurd (cc e)
+
+pub offer_says : OfferedSectionsArePrintable → TextsSaySections → (x : Exchanged) (wanted : List Wanted)
+    → IsKept x.session x.wanted x.config.rows → IsEach HasWidths wanted
+    → no_row_of (find (lists_none x.config.rows) wanted) ≡ None → not_written wanted ≡ None
+    → SaysSections (sdp_text (offer_of x wanted)) (map as_read (offered_sections x.wanted x.config.rows wanted))
+unfolding offer_of
+offer_says printable texts x wanted kept widths listed written =
+    let offer : List Section = offered_sections x.wanted x.config.rows wanted in
+    let names = is_written (list_any is_nameless wanted) written in
+    let lists = none_without (find (lists_none x.config.rows) wanted) listed in
+    of_read (sdp_text (sdp_of x.session offer)) (map as_read offer)
+    (texts x.session offer kept.id kept.writable
+    (each_offered printable x.wanted x.config.rows (kept.numbers, kept.words, kept.printable) wanted widths names
+    lists))
 
 -- its sections are of the wanted names and kinds
 kind_own : (kind : MediaKind) → same_kind kind kind ≡ true

@@ -1,5 +1,6 @@
 -- What is agreed where offered sections are answered.
 use Rattle.std.specs.Prelude.{◌≡◌, ◌<◌, ◌^◌, List, [], map}
+use Rattle.rtp_media_section_laws.specs.PrintableSections.{IsLowPair}
 use Rattle.rtp_media_section_laws.specs.PrintedSections.{named}
 use Rattle.rtp_media_sections.specs.Sections.{Section, Wanted}
 use Rattle.rtp_wire.specs.Name.{name_of}
@@ -13,4 +14,4 @@ read_back s = record s { rows = map unlocked s.rows; extmaps = map named s.extma
 
 -- A name of at most 16 bytes, and SSRCs of 32 bits.
 abbrev pub HasWidths : Wanted → Type 0
-HasWidths w = (name_of 16 w.mid ≡ w.mid) × IsEach (λ ssrc. ssrc < 2 ^ 32) w.ssrcs
+HasWidths w = (name_of 16 w.mid ≡ w.mid) × IsEach (λ ssrc. ssrc < 2 ^ 32) w.ssrcs × IsEach IsLowPair w.repairs

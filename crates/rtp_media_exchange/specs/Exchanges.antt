@@ -1,5 +1,5 @@
 -- What an end keeps of its exchanges, and how each call changes it.
-use Rattle.std.specs.Prelude.{◌<◌, ◌^◌, ℕ, true, false, List, [], ◌∷◌, map, zip, Option, None}
+use Rattle.std.specs.Prelude.{◌≡◌, ◌<◌, ◌^◌, ℕ, true, false, List, [], ◌∷◌, length, map, zip, Option, None}
 use Rattle.rtp_wire.specs.Maps.{empty_map}
 use Rattle.rtp_wire.specs.Values.{Numbering}
 use Rattle.rtp_media_sections.specs.Configs.{Config}
@@ -7,6 +7,7 @@ use Rattle.rtp_media_sections.specs.DefaultRows.{opus_row}
 use Rattle.rtp_media_sections.specs.Rows.{Row}
 use Rattle.sdp_formats_data.specs.declared.session.Session.{Session}
 use Rattle.rtp_media_sections.specs.Agreement.{Agreed, agreed_by_accept, agreed_by_answer, fixed_section}
+use Rattle.rtp_media_sections.specs.Extensions.{is_writable_map}
 use Rattle.rtp_media_sections.specs.Sections.{Section, Wanted}
 use Rattle.rtp_media_section_laws.specs.PrintableSections.{ArePrintable}
 use Rattle.sdp_formats_reader.specs.Writable.{IsWritableSession}
@@ -20,10 +21,13 @@ pub record Exchanged : Type 0 where
   pub pending : Option (List Wanted)
   pub agreed : List Agreed
 
--- What holds of an end at any time: its session can be written, and its rows come back from the texts that list them.
-pub record IsKept (session : Session) (rows : List Row) : Type 0 where
+-- What holds of an end at any time: its session and its header extensions can be written, and its rows come back from
+-- the texts that list them.
+pub record IsKept (session : Session) (exts : Numbering) (rows : List Row) : Type 0 where
   pub id : session.id < 2 ^ 64
   pub writable : IsWritableSession session
+  pub numbers : length exts ≡ 16
+  pub words : is_writable_map exts ≡ true
   pub printable : ArePrintable rows
 
 -- A session with neither attributes nor bandwidth.

@@ -13,7 +13,9 @@ pub use Rattle.rtp_media_sections.specs.Sections
 pub use Rattle.sdp_formats_reader.specs.Writable
 pub mod Answering
 pub mod Exchanges
+pub mod Mutual
 pub mod Offers
 pub mod Reading
 pub mod Refusals
 pub mod Says
+pub mod Wishes

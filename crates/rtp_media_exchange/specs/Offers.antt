@@ -10,6 +10,7 @@ use Rattle.sdp_formats_data.specs.declared.session.SessionAttribute.{SessionAttr
 use Rattle.sdp_formats_data.specs.declared.session.SessionAttribute.TheVariants.{Group}
 use Rattle.rtp_media_exchange.specs.Exchanges.{Exchanged, accepted_agreement, answered_agreement, with_agreement}
 use Rattle.rtp_media_exchange.specs.Says.{SaysSections}
+use Rattle.rtp_media_exchange.specs.Wishes.{AreAnswers}
 use Rattle.rtp_media_section_laws.specs.PrintedSections.{as_read}
 use Rattle.rtp_media_sections.specs.Answered.{answered_section}
 use Rattle.rtp_media_sections.specs.Lines.{line_of, remote_of}
@@ -55,6 +56,7 @@ pub record Answers (x : Exchanged) (text : List ℕ) (wanted : List Wanted) (ans
   pub printed : said ≡ map as_read (answered_sections x.wanted rows wanted offer)
   pub said_is : SaysSections answer said
   pub said_corresponds : IsTrue (corresponds said wanted)
+  pub are_answers : AreAnswers said wanted offer
   pub after_is : after ≡ with_agreement x rows (answered_agreement wanted offer said)
 
 -- The answer of a text was accepted for the pending offer.

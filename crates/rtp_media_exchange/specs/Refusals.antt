@@ -1,12 +1,10 @@
 -- Why calls are refused, lack of memory aside: the first reason that holds.
-use Rattle.std.specs.Prelude.{◌≡◌, ◌≢◌, ◌⊎◌, ℕ, Bool, true, not, ◌&&◌, ◌||◌, ◌==◌, length, Result, Ok, Err}
+use Rattle.std.specs.Prelude.{◌≡◌, ◌≢◌, ◌⊎◌, ℕ, Bool, true, not, ◌&&◌, ◌==◌, length, Result, Ok, Err}
 use Rattle.std.specs.Prelude.{if◌then◌else◌, List, []}
 use Rattle.std.specs.Prelude.{◌∷◌, ◌++◌, Option, Some, None, is_some, map, find, suc}
 use Rattle.std.specs.List.{list_any}
 use Rattle.std.specs.Option.{option_map}
-use Rattle.rtp_wire.specs.Kinds.{uri_of}
 use Rattle.rtp_wire.specs.Values.{Numbering}
-use Rattle.rtp_wire.specs.declared.Extension.{Extension}
 use Rattle.rtp_media_sections.specs.Kinds.{rows_of_kind}
 use Rattle.sdp_formats_rounds.specs.Laws.{rounds}
 use Rattle.rtp_media_sections.specs.declared.RoundError.{RoundError}
@@ -16,7 +14,6 @@ use Rattle.sdp_formats_data.specs.declared.media.MediaLine.{MediaLine}
 use Rattle.sdp_formats_data.specs.declared.session.Session.{Session}
 use Rattle.sdp_formats_reader.specs.Writable.{IsWritableSession}
 use Rattle.rtp_media_exchange.specs.Exchanges.{Exchanged}
-use Rattle.rtp_media_exchange.specs.Offers.{answered_sections}
 use Rattle.rtp_media_exchange.specs.Reading.{IsUnread}
 use Rattle.rtp_media_exchange.specs.Says.{Says, SaysSections}
 use Rattle.rtp_media_exchange.specs.declared.errors.EndError.{EndError}
@@ -25,7 +22,7 @@ use Rattle.rtp_media_exchange.specs.declared.errors.ExchangeError.{ExchangeError
 use Rattle.rtp_media_exchange.specs.declared.errors.ExchangeError.TheVariants as error
 use Rattle.rtp_media_sections.specs.Agreement.{may_follow}
 use Rattle.rtp_media_sections.specs.Answered.{answered_rows}
-use Rattle.rtp_media_sections.specs.Extensions.{is_word, is_writable_map}
+use Rattle.rtp_media_sections.specs.Extensions.{is_writable_map}
 use Rattle.rtp_media_sections.specs.Lines.{remote_of, section_of, types_listed}
 use Rattle.rtp_media_sections.specs.Sections.{Section, Wanted, corresponds}
 
@@ -74,6 +71,10 @@ no_row_of (Some w) = Some (error.NoCommonRow w.mid)
 abbrev pub is_nameless : Wanted → Bool
 is_nameless w = length w.mid == 0
 
+-- Why sections as they are wanted can't be written: one has no name.
+abbrev pub not_written : List Wanted → Option ExchangeError
+not_written wanted = if list_any is_nameless wanted then Some error.NotWritable else None
+
 -- While an offer is pending everything is refused; else what is refused next.
 abbrev pub in_turn : Bool → Option ExchangeError → Option ExchangeError
 in_turn is_pending next = if is_pending then Some error.OutOfTurn else next
@@ -82,8 +83,7 @@ in_turn is_pending next = if is_pending then Some error.OutOfTurn else next
 unfoldable pub refusal_of_offer : Exchanged → List Wanted → Option ExchangeError
 refusal_of_offer x wanted = in_turn (is_some x.pending)
     (if not (may_follow x.agreed wanted) then Some error.NotCorresponding
-    else else_refused (no_row_of (find (lists_none x.config.rows) wanted))
-    (if list_any is_nameless wanted then Some error.NotWritable else None))
+    else else_refused (no_row_of (find (lists_none x.config.rows) wanted)) (not_written wanted))
 
 -- The first section of a text that is no media, or for which a list of rows has none.
 abbrev pub not_media_of : Option Section → Option ExchangeError
@@ -119,25 +119,12 @@ answers_none rows s = length (answered_rows rows s) == 0
 abbrev pub no_answer : List Row → List Section → Option ExchangeError
 no_answer rows sections = no_common_row_of (find (answers_none rows) sections)
 
--- An extension whose URI can't stand in a line.
-abbrev pub is_unwritable : ℕ × Extension → Bool
-is_unwritable entry = not (is_word (uri_of entry.1))
-
-abbrev pub lists_unwritable : Section → Bool
-lists_unwritable s = list_any is_unwritable s.extmaps
-
--- Why an answer of these sections to wanted ones can't be written: one has no name, or lists such an extension.
-abbrev pub not_written : List Wanted → List Section → Option ExchangeError
-not_written wanted answer =
-    if list_any is_nameless wanted || list_any lists_unwritable answer then Some error.NotWritable else None
-
 -- Why `answer` is refused, of what the text says.
 unfoldable pub refusal_of_answer : Exchanged → List Section → List Wanted → Option ExchangeError
 refusal_of_answer x sections wanted = in_turn (is_some x.pending)
     (else_refused (refusal_of_sections x sections wanted)
     (after_rounds (rounds (map remote_of sections) x.config.rows) (λ after.
-    else_refused (no_answer after sections)
-    (not_written wanted (answered_sections x.wanted after wanted sections)))))
+    else_refused (no_answer after sections) (not_written wanted))))
 
 -- A section of an answer of whose rows none has the type of a locked row.
 abbrev pub is_locked_at : List Row → Row → Bool

@@ -58,8 +58,7 @@ pub enum ExchangeError {
     /// This section would list no row.
     #[error("section {0} would list no row")]
     NoCommonRow(Mid),
-    /// The name of a section is empty; or the answer would list a header extension whose URI can't stand in a line,
-    /// which `EndError::NotWritable` keeps from ends.
+    /// The name of a wanted section is empty.
     #[error("the text can't be written")]
     NotWritable,
     /// Out of memory.

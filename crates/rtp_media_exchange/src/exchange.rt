@@ -76,7 +76,7 @@ impl Model for Exchange {
       agreed = x.agreed.items;
     } };
 
-    ghost invariant = { λ x. IsKept x.session x.config.rows };
+    ghost invariant = { λ x. IsKept x.session x.exts x.config.rows };
 }
 
 impl Exchange {

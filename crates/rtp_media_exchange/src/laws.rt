@@ -1,6 +1,7 @@
-//! What holds of ends that agreed on one text.
+//! What holds of ends that exchanged texts.
 
 ghost use Rattle.std.specs.Prelude.{◌≡◌, ℕ, List};
+ghost use Rattle.rtp_media_exchange.specs.Mutual.{ExchangesAreMutual, RepairsAreMutual};
 ghost use Rattle.rtp_media_exchange.specs.Says.{AgreesOnText};
 ghost use Rattle.rtp_media_sections.specs.Agreement.{Agreed, agreed_map_of, agreed_row_of};
 
@@ -11,4 +12,12 @@ pub fn one_agreement_law()
         → (mid : List ℕ) (pt : ℕ) → agreed_row_of a mid pt ≡ agreed_row_of b mid pt }
     ensures maps { (text : List ℕ) (a b : List Agreed) → AgreesOnText text a → AgreesOnText text b
         → (mid : List ℕ) → agreed_map_of a mid ≡ agreed_map_of b mid }
+{}
+
+/// After an offer, its answer and its acceptance both ends stand, in each section, by what the two texts say: media
+/// flows from one to the other where its text sends and the other one's receives, and an SSRC or a repair is named
+/// where the text of its end names it (RFC 3264 6, RFC 5576 4.1, RFC 4588 8.3).
+pub fn mutual_law()
+    ensures sections { ExchangesAreMutual }
+    ensures repairs { RepairsAreMutual }
 {}

@@ -15,15 +15,14 @@ mod read_back;
 mod said_sections;
 mod settle;
 mod widths;
-mod writable;
 
 pub use errors::{EndError, ExchangeError};
 pub use exchange::Exchange;
-pub use laws::one_agreement_law;
+pub use laws::{mutual_law, one_agreement_law};
 pub use payload_core_base::MediaKind;
 pub use rtp_media_sections::{
     AgreedSection, Codec, CodecConfig, CodecSpec, FormatParams, PayloadParams, RoundError,
-    SectionSpec, flow,
+    SectionSpec, are_sound, flow,
 };
 pub use sdp_formats_data::{Bandwidth, Session, SessionAttribute};
 pub use sdp_formats_reader::SdpError;

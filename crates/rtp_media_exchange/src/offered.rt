@@ -3,7 +3,7 @@
 ghost use Rattle.std.specs.Prelude.{◌≡◌, ◌≢◌, None, Some, find, IfOk, IfErr, OnOk};
 ghost use Rattle.std.specs.List.{list_any};
 ghost use Rattle.rtp_media_exchange.specs.Offers.{offered_sections};
-ghost use Rattle.rtp_media_exchange.specs.Refusals.{is_nameless, lists_none, no_row_of};
+ghost use Rattle.rtp_media_exchange.specs.Refusals.{is_nameless, lists_none, no_row_of, not_written};
 
 use crate::errors::ExchangeError;
 use rtp_media_sections::{CodecConfig, Section, SectionSpec, offered_section};
@@ -38,13 +38,27 @@ pub(crate) fn check_listed(
     Ok(())
 }
 
-/// Whether a section has an empty name.
-pub(crate) fn is_any_nameless(sections: &[SectionSpec]) -> bool
+fn is_any_nameless(sections: &[SectionSpec]) -> bool
     ensures { result ≡ list_any is_nameless sections.now }
 {
     sections
         .iter()
         .any(|section| section.mid.as_str().is_empty())
+}
+
+/// That each section has a name.
+///
+/// # Errors
+///
+/// `NotWritable` where one has none.
+pub(crate) fn check_named(sections: &[SectionSpec]) -> Result<(), ExchangeError>
+    ensures ok { OnOk result (not_written sections.now ≡ None) }
+    ensures refused { IfErr result (λ e. not_written sections.now ≡ Some e) }
+{
+    if is_any_nameless(sections) {
+        return Err(ExchangeError::NotWritable);
+    }
+    Ok(())
 }
 
 /// The sections of an offer.

@@ -70,7 +70,7 @@ pub(crate) fn check_new(
 ) -> Result<(), EndError>
     ensures accepted { OnOk result (refusal_of_new rows.now exts.now ≡ None) }
     ensures writable { OnOk result (IsWritableSession session.now) }
-    ensures kept { OnOk result (IsKept session.now rows.now) }
+    ensures kept { OnOk result (IsKept session.now exts.now rows.now) }
     ensures refused { IfErr result (λ e. e ≢ EndError.Memory → RefusesNew rows.now session.now exts.now e) }
 {
     check_rows(alloc, rows)?;

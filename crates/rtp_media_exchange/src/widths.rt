@@ -2,6 +2,7 @@
 
 ghost use Rattle.std.specs.Prelude.{◌<◌, ◌^◌, IfSome};
 ghost use Rattle.rtp_media_exchange.specs.Answering.{HasWidths};
+ghost use Rattle.rtp_media_section_laws.specs.PrintableSections.{IsLowPair};
 ghost use Rattle.sdp_formats_rounds.specs.Members.{IsEach};
 ghost use Rattle.sdp_formats_rounds.specs.Ranges.{IsSized};
 
@@ -45,14 +46,29 @@ fn pass_ssrcs(ssrcs: &[Ssrc])
     }
 }
 
+fn pass_pair(pair: &(Ssrc, Ssrc))
+    ensures { IsLowPair pair.now }
+{
+    let _numbers = (pair.0.get(), pair.1.get());
+}
+
+fn pass_pairs(pairs: &[(Ssrc, Ssrc)])
+    ensures { IsEach IsLowPair pairs.now }
+{
+    for pair in pairs {
+        pass_pair(pair);
+    }
+}
+
 fn pass_section(section: &SectionSpec)
     ensures { HasWidths section.now }
 {
     let _name = section.mid.as_bytes();
     pass_ssrcs(section.ssrcs.as_slice());
+    pass_pairs(section.repairs.as_slice());
 }
 
-/// Looks at the name and the SSRCs of each section.
+/// Looks at the name, the SSRCs and the repairs of each section.
 pub(crate) fn pass_sections(sections: &[SectionSpec])
     ensures { IsEach HasWidths sections.now }
 {

@@ -1,3 +1,4 @@
+pub mod Distincts
 pub mod Entries
 pub mod ListedRows
 pub mod Lists
@@ -13,3 +14,4 @@ pub mod ReadSources
 pub mod SameTexts
 pub mod SizedRounds
 pub mod Texts
+pub mod WantedBack

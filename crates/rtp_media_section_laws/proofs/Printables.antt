@@ -1,17 +1,29 @@
 -- Sections that are offered and that answer are printable.
 use Rattle.std.proofs.Common.{◌<◌, ◌^◌, ℕ, List, [], ◌∷◌, map}
 use Rattle.rtp_media_sections.specs.Answered.{answered_section}
-use Rattle.rtp_media_sections.specs.Offered.{offered_section, plain_source}
-use Rattle.rtp_media_sections.specs.declared.sections.Source.{Source}
+use Rattle.rtp_media_sections.specs.Offered.{offered_section, plain_source, repair_source, sources_wanted}
+use Rattle.rtp_media_sections.specs.Sections.{Wanted}
+use Rattle.rtp_wire.specs.Values.{Numbering}
+use Rattle.sdp_formats_laws.proofs.SoundParams.{each_append}
 use Rattle.sdp_formats_rounds.specs.Members.{IsEach}
 use Rattle.rtp_media_section_laws.proofs.Entries as entries
 use Rattle.rtp_media_section_laws.proofs.ListedRows.{answered_printable, offered_printable}
-use Rattle.rtp_media_section_laws.specs.PrintableSections.{AnsweredSectionsArePrintable, OfferedSectionsArePrintable}
+use Rattle.rtp_media_section_laws.specs.PrintableSections.{AnsweredSectionsArePrintable, CanBeListed, IsLowPair}
+use Rattle.rtp_media_section_laws.specs.PrintableSections.{OfferedSectionsArePrintable}
+use Rattle.rtp_media_section_laws.specs.PrintedSections.{IsLowSource}
 
-sources_low : (ssrcs : List ℕ) → IsEach (λ ssrc. ssrc < 2 ^ 32) ssrcs
-    → IsEach (λ (source : Source). source.ssrc < 2 ^ 32) (map plain_source ssrcs)
-sources_low [] h = tt
-sources_low (s ∷ ssrcs) h = (h.0, sources_low ssrcs h.1)
+plain_low : (ssrcs : List ℕ) → IsEach (λ ssrc. ssrc < 2 ^ 32) ssrcs → IsEach IsLowSource (map plain_source ssrcs)
+plain_low [] h = tt
+plain_low (s ∷ ssrcs) h = ((h.0, tt), plain_low ssrcs h.1)
+
+repairing_low : (pairs : List (ℕ × ℕ)) → IsEach IsLowPair pairs → IsEach IsLowSource (map repair_source pairs)
+repairing_low [] h = tt
+repairing_low (p ∷ pairs) h = ((h.0.1, h.0.0), repairing_low pairs h.1)
+
+sources_low : (exts : Numbering) (w : Wanted) → CanBeListed exts w → IsEach IsLowSource (sources_wanted w)
+sources_low exts w can =
+    each_append IsLowSource (map plain_source w.ssrcs) (map repair_source w.repairs) (plain_low w.ssrcs can.ssrcs)
+    (repairing_low w.repairs can.repairs)
 
 pub offered_sections : OfferedSectionsArePrintable
 unfolding offered_section
@@ -25,7 +37,7 @@ offered_sections exts rows w can all some =
       apart = rows.apart;
       sized = rows.sized;
       extmaps = entries.entries_printable exts can.writable;
-      sources = sources_low w.ssrcs can.ssrcs;
+      sources = sources_low exts w can;
     }
 
 pub answered_sections : AnsweredSectionsArePrintable
@@ -40,5 +52,5 @@ answered_sections exts rows w offer can all some =
       apart = rows.apart;
       sized = rows.sized;
       extmaps = entries.answered_printable exts offer.extmaps can.numbers can.writable;
-      sources = sources_low w.ssrcs can.ssrcs;
+      sources = sources_low exts w can;
     }

@@ -1,11 +1,12 @@
 -- A printable section lists its rows, and has no fault.
-use Rattle.std.proofs.Common.{◌≡◌, ◌≤◌, ◌<◌, ◌^◌, ℕ, false, ◌||◌, List, [], ◌∷◌, map, codes, refl}
-use Rattle.std.proofs.Common.{arith}
+use Rattle.std.proofs.Common.{◌≡◌, ◌≤◌, ◌<◌, ◌^◌, ℕ, Bool, true, false, ◌||◌, ◌==◌, List, [], ◌∷◌, map, codes, refl}
+use Rattle.std.proofs.Common.{Option, Some, None, IfSome, arith, if◌then◌else◌}
 use Rattle.std.specs.List.{count_by, list_any}
 use Rattle.payload_core_base.specs.declared.codec.MediaKind.{MediaKind}
 use Rattle.payload_core_base.specs.declared.codec.MediaKind.TheVariants as kinds
 use Rattle.rtp_media_sections.specs.Extensions.{extmap_line}
-use Rattle.rtp_media_sections.specs.Lines.{line_of, source_line, type_of}
+use Rattle.rtp_media_sections.specs.Lines.{line_of, pair_line, source_line, source_lines, type_of}
+use Rattle.rtp_media_sections.specs.Repairs.{pair_of, repair_in, repairs_in}
 use Rattle.rtp_media_sections.specs.Sections.{Section}
 use Rattle.rtp_media_sections.specs.declared.sections.Source.{Source}
 use Rattle.rtp_wire.specs.Kinds.{uri_of}
@@ -16,7 +17,9 @@ use Rattle.sdp_formats_data.specs.Media.{direction_attribute, is_mid}
 use Rattle.sdp_formats_data.specs.declared.media.MediaAttribute.{MediaAttribute}
 use Rattle.sdp_formats_data.specs.declared.media.MediaAttribute.TheVariants as line
 use Rattle.sdp_formats_laws.proofs.KnownUris.{extension_own, uri_own}
+use Rattle.sdp_formats_laws.proofs.Lists.{none_append}
 use Rattle.sdp_formats_laws.proofs.Printed.{lacks}
+use Rattle.sdp_formats_laws.proofs.SoundParams.{each_append}
 use Rattle.sdp_formats_laws.specs.Printable.{IsText, IsWord}
 use Rattle.sdp_formats_laws.specs.Printable as printable
 use Rattle.sdp_formats_laws.specs.Rows.{EachListsRows, HasOneOfEach, IsMedia, ListsRows}
@@ -26,7 +29,8 @@ use Rattle.sdp_formats_rounds.specs.Members.{IsEach}
 use Rattle.rtp_media_section_laws.proofs.Lists.{count_past}
 use Rattle.rtp_media_section_laws.proofs.Names.{name_text}
 use Rattle.rtp_media_section_laws.proofs.Quiet.{IsQuiet, quiet_rest}
-use Rattle.rtp_media_section_laws.specs.PrintedSections.{IsPrintable, IsPrintableEntry, named, with_names}
+use Rattle.rtp_media_section_laws.specs.PrintableSections.{IsLowPair}
+use Rattle.rtp_media_section_laws.specs.PrintedSections.{IsLowSource, IsPrintable, IsPrintableEntry, named, with_names}
 
 is_media : (kind : MediaKind) → IsMedia (type_of kind)
 is_media kinds.Audio = tt
@@ -64,15 +68,55 @@ cname = ((λ e. cc), lacks 10 (codes "cname") refl, lacks 13 (codes "cname") ref
 name_for_clocks : IsText (codes "str0m")
 name_for_clocks = ((λ e. cc), lacks 10 (codes "str0m") refl, lacks 13 (codes "str0m") refl)
 
-sources_printable : (sources : List Source) → IsEach (λ source. source.ssrc < 2 ^ 32) sources
+sources_printable : (sources : List Source) → IsEach IsLowSource sources
     → IsEach printable.IsPrintable (map source_line sources)
 sources_printable [] h = tt
 sources_printable (s ∷ sources) h =
-    ((h.0, cname, lacks 58 (codes "cname") refl, name_for_clocks), sources_printable sources h.1)
+    ((h.0.0, cname, lacks 58 (codes "cname") refl, name_for_clocks), sources_printable sources h.1)
 
 sources_silent : (sources : List Source) → list_any names_type (map source_line sources) ≡ false
 sources_silent [] = refl
 sources_silent (s ∷ sources) = sources_silent sources
+
+-- groups
+group_word : IsWord (codes "FID")
+group_word = (
+  ((λ e. cc), lacks 10 (codes "FID") refl, lacks 13 (codes "FID") refl),
+  lacks 32 (codes "FID") refl,
+)
+
+pairs_low : (sources : List Source) → IsEach IsLowSource sources → IsEach IsLowPair (repairs_in sources)
+pairs_low [] h = tt
+pairs_low (s ∷ sources) h =
+    each_append IsLowPair (repair_in s) (repairs_in sources) (one s.repairs h.0.1) (pairs_low sources h.1)
+  where
+    unless : (b : Bool) (n : ℕ) → n < 2 ^ 32 → IsEach IsLowPair (if b then [] else (n, s.ssrc) ∷ [])
+    unless true n low = tt
+    unless false n low = ((low, h.0.0), tt)
+
+    one : (o : Option ℕ) → IfSome o (λ n. n < 2 ^ 32) → IsEach IsLowPair (pair_of s.ssrc o)
+    one None low = tt
+    one (Some n) low = unless (n == s.ssrc) n low
+
+pairs_printable : (pairs : List (ℕ × ℕ)) → IsEach IsLowPair pairs
+    → IsEach printable.IsPrintable (map pair_line pairs)
+pairs_printable [] h = tt
+pairs_printable (p ∷ pairs) h = ((group_word, (h.0.0, (h.0.1, tt))), pairs_printable pairs h.1)
+
+pairs_silent : (pairs : List (ℕ × ℕ)) → list_any names_type (map pair_line pairs) ≡ false
+pairs_silent [] = refl
+pairs_silent (p ∷ pairs) = pairs_silent pairs
+
+behind_printable : (sources : List Source) → IsEach IsLowSource sources
+    → IsEach printable.IsPrintable (source_lines sources)
+behind_printable sources h =
+    each_append printable.IsPrintable (map pair_line (repairs_in sources)) (map source_line sources)
+    (pairs_printable (repairs_in sources) (pairs_low sources h)) (sources_printable sources h)
+
+behind_silent : (sources : List Source) → list_any names_type (source_lines sources) ≡ false
+behind_silent sources =
+    none_append names_type (map pair_line (repairs_in sources)) (map source_line sources)
+    (pairs_silent (repairs_in sources)) (sources_silent sources)
 
 -- the lines before the rows
 abbrev front : Section → List MediaAttribute
@@ -89,15 +133,15 @@ lists_rows s h = record {
   distinct = h.apart;
   types = refl;
   others = front s;
-  behind = map source_line s.sources;
+  behind = source_lines s.sources;
   attributes = refl;
   others_printable = (
     (name_text s.mid h.some_name h.name, h.name),
     (direction_printable s.dir, entries_printable s.extmaps h.extmaps),
   );
-  behind_printable = sources_printable s.sources h.sources;
+  behind_printable = behind_printable s.sources h.sources;
   others_silent = (λ i. direction_silent s.dir i || entries_silent (map named s.extmaps) i);
-  behind_silent = sources_silent s.sources;
+  behind_silent = behind_silent s.sources;
 }
 
 -- one name, one direction, no setup
@@ -109,6 +153,7 @@ mid_quiet = record {
   rtcp_fb = λ pt value. refl;
   fmtp = λ pt values. refl;
   ssrc = λ n attr value. refl;
+  group = λ semantics ssrcs. refl;
 }
 
 setup_quiet : IsQuiet is_setup
@@ -119,6 +164,7 @@ setup_quiet = record {
   rtcp_fb = λ pt value. refl;
   fmtp = λ pt values. refl;
   ssrc = λ n attr value. refl;
+  group = λ semantics ssrcs. refl;
 }
 
 direction_quiet : IsQuiet is_direction_of
@@ -129,6 +175,7 @@ direction_quiet = record {
   rtcp_fb = λ pt value. refl;
   fmtp = λ pt values. refl;
   ssrc = λ n attr value. refl;
+  group = λ semantics ssrcs. refl;
 }
 
 one_name : (mid : List ℕ) (d : Direction) (rest : List MediaAttribute) → list_any is_mid rest ≡ false

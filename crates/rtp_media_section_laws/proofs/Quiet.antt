@@ -6,7 +6,8 @@ use Rattle.std.specs.List.{cons_option, list_all, list_any}
 use Rattle.std.proofs.lemmas.Bool.{false≢true}
 use Rattle.std.proofs.lemmas.List.Elements.{filter_map-append}
 use Rattle.rtp_media_sections.specs.Extensions.{extmap_line}
-use Rattle.rtp_media_sections.specs.Lines.{row_lines, source_line}
+use Rattle.rtp_media_sections.specs.Lines.{pair_line, row_lines, source_line, source_lines}
+use Rattle.rtp_media_sections.specs.Repairs.{repairs_in}
 use Rattle.rtp_media_sections.specs.declared.sections.Source.{Source}
 use Rattle.rtp_wire.specs.declared.Extension.{Extension}
 use Rattle.sdp_formats_data.specs.declared.media.MediaAttribute.{MediaAttribute}
@@ -69,6 +70,7 @@ pub record IsQuiet (p : MediaAttribute → Bool) : Type 0 where
   pub rtcp_fb : (pt : ℕ) (value : List ℕ) → p (line.RtcpFb pt value) ≡ false
   pub fmtp : (pt : ℕ) (values : List FormatParam) → p (line.Fmtp pt values) ≡ false
   pub ssrc : (ssrc : ℕ) (attr value : List ℕ) → p (line.Ssrc ssrc attr value) ≡ false
+  pub group : (semantics : List ℕ) (ssrcs : List ℕ) → p (line.SsrcGroup semantics ssrcs) ≡ false
 
 quiet_type : (p : MediaAttribute → Bool) → IsQuiet p → (a : MediaAttribute) → names_type a ≡ true → p a ≡ false
 quiet_type p q (line.RtpMap pt value) e = q.rtpmap pt value
@@ -87,13 +89,21 @@ quiet_sources p q [] = refl
 quiet_sources p q (s ∷ sources) =
     (λ i. q.ssrc s.ssrc (codes "cname") (codes "str0m") i || quiet_sources p q sources i)
 
+quiet_pairs : (p : MediaAttribute → Bool) → IsQuiet p → (pairs : List (ℕ × ℕ))
+    → list_any p (map pair_line pairs) ≡ false
+quiet_pairs p q [] = refl
+quiet_pairs p q (pair ∷ pairs) =
+    (λ i. q.group (codes "FID") (pair.0 ∷ pair.1 ∷ []) i || quiet_pairs p q pairs i)
+
 pub quiet_rest : (p : MediaAttribute → Bool) → IsQuiet p → (exts : List (ℕ × Extension)) (rows : List Row)
     (sources : List Source)
-    → list_any p (map extmap_line exts ++ (row_lines rows ++ map source_line sources)) ≡ false
+    → list_any p (map extmap_line exts ++ (row_lines rows ++ source_lines sources)) ≡ false
 quiet_rest p q exts rows sources =
-    none_append p (map extmap_line exts) (row_lines rows ++ map source_line sources) (quiet_extmaps p q exts)
-    (none_append p (row_lines rows) (map source_line sources)
-    (none_of p names_type (quiet_type p q) (row_lines rows) (rows_named rows)) (quiet_sources p q sources))
+    none_append p (map extmap_line exts) (row_lines rows ++ source_lines sources) (quiet_extmaps p q exts)
+    (none_append p (row_lines rows) (source_lines sources)
+    (none_of p names_type (quiet_type p q) (row_lines rows) (rows_named rows))
+    (none_append p (map pair_line (repairs_in sources)) (map source_line sources)
+    (quiet_pairs p q (repairs_in sources)) (quiet_sources p q sources)))
 
 -- what only lines of sources give
 pub record OfSources {B : Type 0} (f : MediaAttribute → Option B) : Type 0 where

@@ -8,8 +8,9 @@ use Rattle.std.proofs.lemmas.Grind.{flat_map-append}
 use Rattle.payload_core_base.specs.declared.codec.MediaKind.{MediaKind}
 use Rattle.payload_core_base.specs.declared.codec.MediaKind.TheVariants as kinds
 use Rattle.rtp_media_sections.specs.Extensions.{extmap_line}
-use Rattle.rtp_media_sections.specs.Lines.{is_media_line, kind_of, line_of, row_lines, section_of, source_line}
-use Rattle.rtp_media_sections.specs.Lines.{type_of}
+use Rattle.rtp_media_sections.specs.Lines.{is_media_line, kind_of, line_of, pair_line, row_lines, section_of}
+use Rattle.rtp_media_sections.specs.Lines.{source_line, source_lines, type_of}
+use Rattle.rtp_media_sections.specs.Repairs.{repairs_in}
 use Rattle.rtp_media_sections.specs.Sections.{Section}
 use Rattle.rtp_media_sections.specs.declared.sections.Source.{Source}
 use Rattle.rtp_wire.specs.declared.Direction.{Direction}
@@ -73,6 +74,16 @@ unfolding extmap_in
 sources_list_none [] = refl
 sources_list_none (s ∷ sources) = sources_list_none sources
 
+pairs_list_none : (pairs : List (ℕ × ℕ)) → flat_map extmap_in (map pair_line pairs) ≡ []
+unfolding extmap_in
+pairs_list_none [] = refl
+pairs_list_none (p ∷ pairs) = pairs_list_none pairs
+
+behind_lists_none : (sources : List Source) → flat_map extmap_in (source_lines sources) ≡ []
+behind_lists_none sources =
+    flat_map-append extmap_in (map pair_line (repairs_in sources)) (map source_line sources)
+    ∙ (λ i. pairs_list_none (repairs_in sources) i ++ sources_list_none sources i)
+
 entries_back : (exts : List (ℕ × Extension)) → flat_map extmap_in (map extmap_line exts) ≡ exts
 unfolding extmap_in
 entries_back [] = refl
@@ -90,10 +101,10 @@ extmaps_back : (mid : List ℕ) (d : Direction) (exts : List (ℕ × Extension))
     → flat_map extmap_in (lines_with mid d exts rows sources) ≡ exts
 extmaps_back mid d exts rows sources =
     extmaps_front mid d _
-    ∙ flat_map-append extmap_in (map extmap_line exts) (row_lines rows ++ map source_line sources)
-    ∙ (λ i. entries_back exts i ++ flat_map-append extmap_in (row_lines rows) (map source_line sources) i)
+    ∙ flat_map-append extmap_in (map extmap_line exts) (row_lines rows ++ source_lines sources)
+    ∙ (λ i. entries_back exts i ++ flat_map-append extmap_in (row_lines rows) (source_lines sources) i)
     ∙ (λ i. exts ++ (no_members extmap_in names_type type_lists_none (row_lines rows) (rows_named rows) i
-    ++ sources_list_none sources i))
+    ++ behind_lists_none sources i))
     ∙ append-nil exts
 
 -- rows
@@ -110,7 +121,7 @@ come_back back read same s h =
     let m : MediaLine = line_of (with_names s) in
     let says = same m in
     let exts : List (ℕ × Extension) = map named s.extmaps in
-    let more : List MediaAttribute = map extmap_line exts ++ (row_lines s.rows ++ map source_line s.sources) in
+    let more : List MediaAttribute = map extmap_line exts ++ (row_lines s.rows ++ source_lines s.sources) in
     (λ i. record {
       mid = (ap (λ o. unwrap_or o []) says.1 ∙ first_name s.mid (direction_attribute s.dir ∷ more)) i;
       kind = kind_back s.kind i;

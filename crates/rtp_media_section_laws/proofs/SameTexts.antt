@@ -2,7 +2,7 @@
 use Rattle.std.proofs.Common.{◌≡◌, ℕ, List, [], ◌∷◌, ◌++◌, map, codes, refl, ap, option_map}
 use Rattle.std.specs.Fmt.{decimal}
 use Rattle.rtp_media_sections.specs.Extensions.{extmap_line}
-use Rattle.rtp_media_sections.specs.Lines.{line_of, row_lines, source_line}
+use Rattle.rtp_media_sections.specs.Lines.{line_of, row_lines, source_lines}
 use Rattle.rtp_media_sections.specs.Sections.{Section}
 use Rattle.rtp_wire.specs.Kinds.{uri_of}
 use Rattle.rtp_wire.specs.declared.Extension.{Extension}
@@ -38,7 +38,7 @@ text_with m texts = spelled (codes "m=" ∷ media_type_text m.typ ∷ codes " " 
 pub names_print_same : NamesPrintTheSame
 unfolding section_text formats_text line_of
 names_print_same s =
-    let rest : List MediaAttribute = row_lines s.rows ++ map source_line s.sources in
+    let rest : List MediaAttribute = row_lines s.rows ++ source_lines s.sources in
     ap (λ texts. text_with (line_of s)
     (attribute_text (line.Mid s.mid) ∷ attribute_text (direction_attribute s.dir) ∷ texts))
     (entries_same s.extmaps rest)

@@ -1,3 +1,4 @@
 pub mod PrintableSections
 pub mod PrintedSections
 pub mod ReadRounds
+pub mod WantedSections

@@ -1,5 +1,5 @@
 -- Which sections of ends are printable.
-use Rattle.std.specs.Prelude.{◌≡◌, ◌≢◌, ◌<◌, ◌^◌, true, List, [], length}
+use Rattle.std.specs.Prelude.{◌≡◌, ◌≢◌, ◌<◌, ◌^◌, ℕ, true, List, [], length}
 use Rattle.std.specs.List.{list_all}
 use Rattle.rtp_media_sections.specs.Answered.{answered_rows, answered_section}
 use Rattle.rtp_media_sections.specs.Extensions.{is_writable_map}
@@ -22,13 +22,19 @@ pub record ArePrintable (rows : List Row) : Type 0 where
   pub apart : is_distinct (types_listed rows) ≡ true
   pub sized : IsEach IsSized rows
 
--- A map of 16 numbers whose URIs can stand in lines, and a wanted section of a name whose SSRCs are of 32 bits.
+-- SSRCs of 32 bits.
+abbrev pub IsLowPair : ℕ × ℕ → Type 0
+IsLowPair pair = (pair.0 < 2 ^ 32) × (pair.1 < 2 ^ 32)
+
+-- A map of 16 numbers whose URIs can stand in lines, and a wanted section of a name whose SSRCs, those of repairs too,
+-- are of 32 bits.
 pub record CanBeListed (exts : Numbering) (w : Wanted) : Type 0 where
   pub numbers : length exts ≡ 16
   pub writable : is_writable_map exts ≡ true
   pub some_name : w.mid ≢ []
   pub name : name_of 16 w.mid ≡ w.mid
   pub ssrcs : IsEach (λ ssrc. ssrc < 2 ^ 32) w.ssrcs
+  pub repairs : IsEach IsLowPair w.repairs
 
 -- A section that is offered is printable, where it lists some row.
 abbrev pub OfferedSectionsArePrintable : Type 0

@@ -1,8 +1,8 @@
 -- What printed sections are read as.
-use Rattle.std.specs.Prelude.{◌≡◌, ◌≢◌, ◌<◌, ◌^◌, ℕ, true, List, [], map, codes}
-use Rattle.std.specs.List.{list_all}
+use Rattle.std.specs.Prelude.{◌≡◌, ◌≢◌, ◌<◌, ◌^◌, ℕ, true, List, [], map, codes, IfSome, None}
+use Rattle.std.specs.List.{filter_map, last_or, list_all}
 use Rattle.rtp_media_sections.specs.Lines.{line_of, section_of, types_listed}
-use Rattle.rtp_media_sections.specs.Offered.{plain_source}
+use Rattle.rtp_media_sections.specs.Repairs.{repairs_in}
 use Rattle.rtp_media_sections.specs.Sections.{Section}
 use Rattle.rtp_media_sections.specs.declared.sections.Source.{Source}
 use Rattle.rtp_wire.specs.Kinds.{extension_of, uri_of}
@@ -10,6 +10,7 @@ use Rattle.rtp_wire.specs.Name.{name_of}
 use Rattle.rtp_wire.specs.declared.Extension.{Extension}
 use Rattle.sdp_formats_data.specs.PrintedMedia.{section_text}
 use Rattle.sdp_formats_data.specs.PrintedSession.{sdp_text}
+use Rattle.sdp_formats_data.specs.Sources.{repaired_if}
 use Rattle.sdp_formats_data.specs.declared.session.Sdp.{Sdp}
 use Rattle.sdp_formats_data.specs.declared.session.Session.{Session}
 use Rattle.sdp_formats_laws.specs.Printable.{IsWord}
@@ -31,9 +32,13 @@ named entry = (entry.0, extension_of (uri_of entry.1))
 abbrev pub with_names : Section → Section
 with_names s = record s { extmaps = map named s.extmaps }
 
--- The sources that lines of these sources name: each once, and none that repairs another.
+-- The source of an SSRC by lines with these pairs: it repairs what the last pair of it says.
+abbrev pub source_with : List (ℕ × ℕ) → ℕ → Source
+source_with pairs ssrc = record { ssrc = ssrc; repairs = last_or None (filter_map (repaired_if ssrc) pairs) }
+
+-- The sources that lines of these sources name: each SSRC once, with the one that it repairs.
 abbrev pub sources_read : List Source → List Source
-sources_read sources = map plain_source (distinct (map (λ source. source.ssrc) sources))
+sources_read sources = map (source_with (repairs_in sources)) (distinct (map (λ source. source.ssrc) sources))
 
 -- What is read of a printed section: one of media; rows that no exchange has settled, extensions as their URIs name
 -- them, and each source once.
@@ -49,6 +54,10 @@ as_read s = record s {
 abbrev pub IsPrintableEntry : ℕ × Extension → Type 0
 IsPrintableEntry entry = (entry.0 < 2 ^ 8) × IsWord (uri_of entry.1)
 
+-- SSRCs of 32 bits.
+abbrev pub IsLowSource : Source → Type 0
+IsLowSource source = (source.ssrc < 2 ^ 32) × IfSome source.repairs (λ ssrc. ssrc < 2 ^ 32)
+
 -- A section of a name, with plain rows of distinct types, whose numbers are of their widths and whose URIs are words.
 pub record IsPrintable (s : Section) : Type 0 where
   pub some_name : s.mid ≢ []
@@ -58,7 +67,7 @@ pub record IsPrintable (s : Section) : Type 0 where
   pub apart : is_distinct (types_listed s.rows) ≡ true
   pub sized : IsEach IsSized s.rows
   pub extmaps : IsEach IsPrintableEntry s.extmaps
-  pub sources : IsEach (λ source. source.ssrc < 2 ^ 32) s.sources
+  pub sources : IsEach IsLowSource s.sources
 
 -- A section is printed as with its extensions as their URIs name them.
 abbrev pub NamesPrintTheSame : Type 0

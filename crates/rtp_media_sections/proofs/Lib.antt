@@ -1,3 +1,4 @@
 mod ExtmapLemmas
 mod Named
 mod SectionNames
+pub mod RepairPairs

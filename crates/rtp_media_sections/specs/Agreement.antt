@@ -18,11 +18,12 @@ use Rattle.sdp_formats_rounds.specs.declared.CodecSpec.{CodecSpec}
 use Rattle.sdp_formats_rows.specs.Rows.{Row}
 use Rattle.sdp_formats_params.specs.Same.{same, same_flag}
 use Rattle.rtp_media_sections.specs.Extensions.{map_of_extmaps}
-use Rattle.rtp_media_sections.specs.Lines.{ssrcs_of}
+use Rattle.rtp_media_sections.specs.Lines.{repairs_of, ssrcs_of}
 use Rattle.rtp_media_sections.specs.Sections.{Section, Wanted, are_distinct, has_shape}
 
 -- A section as an exchange left it: its name and kind, the answer's rows and its map of header extensions, the SSRCs
--- that this end and the other one name in it, and whether it flows from this end and to it.
+-- that this end and the other one name in it, and their pairs of an SSRC and that of its repairs, and whether it flows
+-- from this end and to it.
 pub record Agreed : Type 0 where
   pub mid : List ℕ
   pub kind : MediaKind
@@ -30,6 +31,8 @@ pub record Agreed : Type 0 where
   pub map : Numbering
   pub own_ssrcs : List ℕ
   pub remote_ssrcs : List ℕ
+  pub own_repairs : List (ℕ × ℕ)
+  pub remote_repairs : List (ℕ × ℕ)
   pub sends : Bool
   pub receives : Bool
 
@@ -54,32 +57,36 @@ fixed_section = record {
   map = empty_map;
   own_ssrcs = 44 ∷ [];
   remote_ssrcs = 44 ∷ [];
+  own_repairs = [];
+  remote_repairs = [];
   sends = true;
   receives = true;
 }
 
--- A section of the answer and of the other end's text: name, kind, rows and extensions of the answer, the SSRCs that
--- this end wanted and those that the other end's text names, and how it flows.
-abbrev pub agreed : List ℕ → Section → Section → Bool → Bool → Agreed
-agreed ssrcs remote answer from to = record {
+-- A section of the answer and of the other end's text: name, kind, rows and extensions of the answer, the SSRCs and
+-- repairs that this end wanted and those that the other end's text names, and how it flows.
+abbrev pub agreed : Wanted → Section → Section → Bool → Bool → Agreed
+agreed w remote answer from to = record {
   mid = answer.mid;
   kind = answer.kind;
   rows = answer.rows;
   map = map_of_extmaps answer.extmaps;
-  own_ssrcs = ssrcs;
+  own_ssrcs = w.ssrcs;
   remote_ssrcs = ssrcs_of remote;
+  own_repairs = w.repairs;
+  remote_repairs = repairs_of remote;
   sends = from;
   receives = to;
 }
 
 -- What the end agrees on that answers a section: it flows as the answer says.
 unfoldable pub agreed_by_answer : Wanted → Section → Section → Agreed
-agreed_by_answer w offer answer = agreed w.ssrcs offer answer (sends answer.dir) (receives answer.dir)
+agreed_by_answer w offer answer = agreed w offer answer (sends answer.dir) (receives answer.dir)
 
 -- What the end agrees on that offered it: it flows where the answer lets it and the offer asked for it.
 unfoldable pub agreed_by_accept : Wanted → Section → Agreed
 agreed_by_accept w answer =
-    agreed w.ssrcs answer answer (receives answer.dir && sends w.dir) (sends answer.dir && receives w.dir)
+    agreed w answer answer (receives answer.dir && sends w.dir) (sends answer.dir && receives w.dir)
 
 -- The agreed section of a name.
 abbrev pub section_of : List Agreed → List ℕ → Option Agreed
@@ -100,6 +107,22 @@ agreed_row_of agreed mid pt = row_of_section (section_of agreed mid) pt
 -- The map of header extensions of the answer's section of a name.
 abbrev pub agreed_map_of : List Agreed → List ℕ → Option Numbering
 agreed_map_of agreed mid = option_map (λ a. a.map) (section_of agreed mid)
+
+abbrev pub own_repairs_in : Option Agreed → List (ℕ × ℕ)
+own_repairs_in None = []
+own_repairs_in (Some a) = a.own_repairs
+
+abbrev pub remote_repairs_in : Option Agreed → List (ℕ × ℕ)
+remote_repairs_in None = []
+remote_repairs_in (Some a) = a.remote_repairs
+
+-- The pairs of an SSRC and that of its repairs that this end names in the section of a name, and those of the other
+-- end.
+abbrev pub own_repairs_of : List Agreed → List ℕ → List (ℕ × ℕ)
+own_repairs_of agreed mid = own_repairs_in (section_of agreed mid)
+
+abbrev pub remote_repairs_of : List Agreed → List ℕ → List (ℕ × ℕ)
+remote_repairs_of agreed mid = remote_repairs_in (section_of agreed mid)
 
 -- The section of a name among those of a text.
 abbrev pub said_of : List Section → List ℕ → Option Section

@@ -1,6 +1,6 @@
 -- What an answer says (RFC 3264 6.1).
 use Rattle.std.specs.Prelude.{ℕ, Bool, true, false, ◌&&◌, ◌==◌, List, [], ◌∷◌, ◌++◌, find, fold, Option, Some, None}
-use Rattle.std.specs.Prelude.{if◌then◌else◌, map}
+use Rattle.std.specs.Prelude.{if◌then◌else◌}
 use Rattle.std.specs.List.{list_any, flat_map}
 use Rattle.rtp_wire.specs.declared.Direction.{Direction}
 use Rattle.rtp_wire.specs.declared.Direction.TheVariants.{SendOnly, RecvOnly, SendRecv, Inactive}
@@ -11,7 +11,7 @@ use Rattle.sdp_formats_rounds.specs.Best.{best_row}
 use Rattle.sdp_formats_rounds.specs.Rows.{Row}
 use Rattle.sdp_formats_section_rows.specs.SectionRows.{listed}
 use Rattle.rtp_media_sections.specs.Extensions.{answered_extmaps}
-use Rattle.rtp_media_sections.specs.Offered.{plain_source}
+use Rattle.rtp_media_sections.specs.Offered.{sources_wanted}
 use Rattle.rtp_media_sections.specs.Sections.{Section, Wanted}
 
 -- The direction that sends and receives so.
@@ -61,5 +61,5 @@ answered_section exts rows w offer = record {
   dir = answered_direction offer.dir w.dir;
   rows = answered_rows rows offer;
   extmaps = answered_extmaps exts offer.extmaps;
-  sources = map plain_source w.ssrcs;
+  sources = sources_wanted w;
 }

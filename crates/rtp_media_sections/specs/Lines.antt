@@ -1,7 +1,7 @@
 -- The sections of offers and answers as lines, and what lines say (RFC 8829 5.2.1 and 5.3.1).
-use Rattle.std.specs.Prelude.{ℕ, Bool, false, not, ◌&&◌, List, [], ◌∷◌, ◌++◌, map, codes, None}
+use Rattle.std.specs.Prelude.{ℕ, Bool, false, not, ◌&&◌, List, [], ◌∷◌, ◌++◌, filter, map, codes, None}
 use Rattle.std.specs.List.{flat_map}
-use Rattle.std.specs.Option.{unwrap_or}
+use Rattle.std.specs.Option.{is_none, unwrap_or}
 use Rattle.payload_core_base.specs.declared.codec.MediaKind as kind
 use Rattle.payload_core_base.specs.declared.codec.MediaKind.TheVariants as kinds
 use Rattle.rtp_wire.specs.Direction.{receives}
@@ -23,6 +23,7 @@ use Rattle.sdp_formats_data.specs.declared.MediaType as typ
 use Rattle.sdp_formats_data.specs.declared.MediaType.TheVariants.{Audio, Video}
 use Rattle.sdp_formats_data.specs.declared.Proto.TheVariants.{Srtp}
 use Rattle.rtp_media_sections.specs.Extensions.{extmap_line}
+use Rattle.rtp_media_sections.specs.Repairs.{repairs_in}
 use Rattle.rtp_media_sections.specs.Sections.{Section}
 use Rattle.rtp_media_sections.specs.declared.sections.Source.{Source}
 
@@ -42,10 +43,18 @@ row_lines rows = flat_map attributes_of rows
 abbrev pub source_line : Source → MediaAttribute
 source_line source = line.Ssrc source.ssrc (codes "cname") (codes "str0m")
 
+-- An SSRC and that of its repairs, as a group (RFC 4588 8.3).
+abbrev pub pair_line : ℕ × ℕ → MediaAttribute
+pair_line pair = line.SsrcGroup (codes "FID") (pair.0 ∷ pair.1 ∷ [])
+
+-- The lines of sources: a group for each that repairs another one, and behind these a line for each source.
+abbrev pub source_lines : List Source → List MediaAttribute
+source_lines sources = map pair_line (repairs_in sources) ++ map source_line sources
+
 -- The lines of a section of media: name, direction, extensions, rows and sources.
 abbrev pub section_lines : Section → List MediaAttribute
 section_lines s = line.Mid s.mid ∷ direction_attribute s.dir
-    ∷ (map extmap_line s.extmaps ++ (row_lines s.rows ++ map source_line s.sources))
+    ∷ (map extmap_line s.extmaps ++ (row_lines s.rows ++ source_lines s.sources))
 
 -- A section of media as it is written.
 unfoldable pub line_of : Section → MediaLine
@@ -95,6 +104,10 @@ section_of m = record {
 abbrev pub remote_of : Section → round.Section
 remote_of s = record { rows = s.rows; dictated = receives s.dir }
 
--- The SSRCs of its sources.
+-- The SSRCs that it names: those of its sources of which it doesn't say that they repair.
 abbrev pub ssrcs_of : Section → List ℕ
-ssrcs_of s = map (λ source. source.ssrc) s.sources
+ssrcs_of s = map (λ source. source.ssrc) (filter (λ source. is_none source.repairs) s.sources)
+
+-- Its pairs of an SSRC and that of its repairs, in the order of its sources.
+abbrev pub repairs_of : Section → List (ℕ × ℕ)
+repairs_of s = repairs_in s.sources

@@ -1,5 +1,5 @@
 -- What an offer says (RFC 8829 5.2.1).
-use Rattle.std.specs.Prelude.{ℕ, true, List, map, None}
+use Rattle.std.specs.Prelude.{ℕ, true, List, ◌++◌, map, Some, None}
 use Rattle.rtp_wire.specs.Values.{Numbering}
 use Rattle.sdp_formats_rounds.specs.Kinds.{rows_of_kind}
 use Rattle.sdp_formats_rounds.specs.Rows.{Row}
@@ -11,6 +11,14 @@ use Rattle.rtp_media_sections.specs.declared.sections.Source.{Source}
 abbrev pub plain_source : ℕ → Source
 plain_source ssrc = record { ssrc = ssrc; repairs = None }
 
+-- A source that repairs another one.
+abbrev pub repair_source : ℕ × ℕ → Source
+repair_source pair = record { ssrc = pair.1; repairs = Some pair.0 }
+
+-- The sources of a wanted section: its SSRCs, and behind them those of their repairs.
+abbrev pub sources_wanted : Wanted → List Source
+sources_wanted w = map plain_source w.ssrcs ++ map repair_source w.repairs
+
 -- The section that an end offers: all extensions that it wants, and all rows of the kind.
 unfoldable pub offered_section : Numbering → List Row → Wanted → Section
 offered_section exts rows w = record {
@@ -20,5 +28,5 @@ offered_section exts rows w = record {
   dir = w.dir;
   rows = rows_of_kind w.kind true rows;
   extmaps = entries_of exts;
-  sources = map plain_source w.ssrcs;
+  sources = sources_wanted w;
 }

@@ -8,14 +8,24 @@ use Rattle.payload_core_base.specs.declared.codec.MediaKind.TheVariants.{Audio, 
 use Rattle.rtp_wire.specs.declared.Direction.{Direction}
 use Rattle.rtp_wire.specs.declared.Extension.{Extension}
 use Rattle.sdp_formats_rows.specs.Rows.{Row}
+use Rattle.rtp_media_sections.specs.Repairs.{are_sound_pairs}
 use Rattle.rtp_media_sections.specs.declared.sections.Source.{Source}
 
--- A section as an end wants it: its name, its kind, which way media shall flow, and the SSRCs that the end sends under.
+-- A section as an end wants it: its name, its kind, which way media shall flow, the SSRCs that the end sends under, and
+-- pairs of one of them and the SSRC of its repairs.
 pub record Wanted : Type 0 where
   pub mid : List ℕ
   pub kind : MediaKind
   pub dir : Direction
   pub ssrcs : List ℕ
+  pub repairs : List (ℕ × ℕ)
+
+-- Whether its repairs fit its SSRCs.
+abbrev pub is_sound : Wanted → Bool
+is_sound w = are_sound_pairs w.ssrcs w.repairs
+
+abbrev pub are_sound : List Wanted → Bool
+are_sound sections = list_all is_sound sections
 
 -- What a section of a text says: its name and kind; whether it is audio or video over RTP and not of port 0; its
 -- direction; its rows, each with its RTX and its RED type; each of its lines of header extensions, in order; and its

@@ -5,8 +5,10 @@ ghost use Rattle.std.specs.Str.{bytes_eq};
 ghost use Rattle.rtp_media_sections.specs.Agreement.{agreed, agreed_by_accept, agreed_by_answer, fixed_section};
 ghost use Rattle.rtp_media_sections.specs.Agreement.{is_named, row_in};
 ghost use Rattle.rtp_media_sections.specs.Lines.{ssrcs_of};
+ghost use Rattle.rtp_media_sections.specs.Repairs.{repairing_of};
 
 use crate::extmaps::map_of_extmaps;
+use crate::repairs::{repairing_of, repairs_in};
 use crate::sections::Section;
 use crate::ssrc_list::SsrcList;
 use crate::wanted::SectionSpec;
@@ -25,6 +27,8 @@ pub struct AgreedSection {
     exts: ExtensionMap,
     own_ssrcs: SsrcList,
     remote_ssrcs: SsrcList,
+    own_repairs: Vec<(Ssrc, Ssrc)>,
+    remote_repairs: Vec<(Ssrc, Ssrc)>,
     sends: bool,
     receives: bool,
 }
@@ -39,6 +43,8 @@ impl Drop for AgreedSection {
             exts: _exts,
             own_ssrcs: _own_ssrcs,
             remote_ssrcs: _remote_ssrcs,
+            own_repairs: _own_repairs,
+            remote_repairs: _remote_repairs,
             sends: _sends,
             receives: _receives,
         } = self;
@@ -57,6 +63,8 @@ impl Model for AgreedSection {
       map = a.exts;
       own_ssrcs = a.own_ssrcs;
       remote_ssrcs = a.remote_ssrcs;
+      own_repairs = a.own_repairs.items;
+      remote_repairs = a.remote_repairs.items;
       sends = a.sends;
       receives = a.receives;
     } };
@@ -96,6 +104,8 @@ impl AgreedSection {
             exts: ExtensionMap::empty(),
             own_ssrcs: fixed_ssrcs(alloc)?,
             remote_ssrcs: fixed_ssrcs(alloc)?,
+            own_repairs: Vec::new(alloc),
+            remote_repairs: Vec::new(alloc),
             sends: true,
             receives: true,
         })
@@ -120,6 +130,34 @@ impl AgreedSection {
         ensures { result.now ≡ self.now.rows }
     {
         self.rows.as_slice()
+    }
+
+    /// The pairs of an SSRC and that of its repairs that this end names (RFC 4588 8.3).
+    pub fn own_repairs(&self) -> &[(Ssrc, Ssrc)]
+        ensures { result.now ≡ self.now.own_repairs }
+    {
+        self.own_repairs.as_slice()
+    }
+
+    /// The pairs of an SSRC and that of its repairs that the other end names, in the order in which its text has them.
+    pub fn remote_repairs(&self) -> &[(Ssrc, Ssrc)]
+        ensures { result.now ≡ self.now.remote_repairs }
+    {
+        self.remote_repairs.as_slice()
+    }
+
+    /// The SSRC under which this end repairs what it sends under another one.
+    pub fn own_repair_of(&self, ssrc: Ssrc) -> Option<Ssrc>
+        ensures { result ≡ repairing_of self.now.own_repairs ssrc }
+    {
+        repairing_of(self.own_repairs.as_slice(), ssrc)
+    }
+
+    /// The SSRC under which the other end repairs what it sends under another one.
+    pub fn remote_repair_of(&self, ssrc: Ssrc) -> Option<Ssrc>
+        ensures { result ≡ repairing_of self.now.remote_repairs ssrc }
+    {
+        repairing_of(self.remote_repairs.as_slice(), ssrc)
     }
 
     /// The SSRCs that the other end names, in the order in which its text has them (RFC 5576 4.1).
@@ -182,18 +220,21 @@ impl AgreedSection {
     }
 }
 
-/// The SSRCs of a section's sources.
+/// The SSRCs that a section names: those of its sources of which it doesn't say that they repair.
 fn ssrcs_of(alloc: Global, section: &Section) -> Result<Vec<Ssrc>, AllocError>
     ensures { IfOk result (λ ssrcs. ssrcs.items ≡ ssrcs_of section.now) }
 {
     let mut ssrcs = Vec::new(alloc);
     for source in &section.sources {
-        ssrcs.push(source.ssrc)?;
+        if source.repairs.is_none() {
+            ssrcs.push(source.ssrc)?;
+        }
     }
     Ok(ssrcs)
 }
 
-/// A section of these texts that flows so: this end names the SSRCs that it wanted, the other one those of its text.
+/// A section of these texts that flows so: this end names the SSRCs and repairs that it wanted, the other one those of
+/// its text.
 fn agreed(
     alloc: Global,
     wanted: &SectionSpec,
@@ -202,7 +243,7 @@ fn agreed(
     sends: bool,
     receives: bool,
 ) -> Result<AgreedSection, AllocError>
-    ensures { IfOk result (λ a. a ≡ agreed wanted.now.ssrcs remote.now answer.now sends receives) }
+    ensures { IfOk result (λ a. a ≡ agreed wanted.now remote.now answer.now sends receives) }
 {
     Ok(AgreedSection {
         mid: answer.mid,
@@ -211,6 +252,8 @@ fn agreed(
         exts: map_of_extmaps(alloc, answer.extmaps.as_slice())?,
         own_ssrcs: SsrcList::of(alloc, wanted.ssrcs.clone()?)?,
         remote_ssrcs: SsrcList::of(alloc, ssrcs_of(alloc, remote)?)?,
+        own_repairs: wanted.repairs.clone()?,
+        remote_repairs: repairs_in(alloc, remote.sources.as_slice())?,
         sends,
         receives,
     })

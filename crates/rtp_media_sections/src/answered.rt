@@ -7,7 +7,7 @@ ghost use Rattle.rtp_media_sections.specs.Answered.{has_pt};
 ghost use Rattle.rtp_media_sections.specs.Answered.{locked_row, row_answering, rows_answering, with_once};
 
 use crate::extmaps::answered_extmaps;
-use crate::offered::plain_sources;
+use crate::offered::sources_wanted;
 use crate::sections::Section;
 use crate::wanted::SectionSpec;
 use rtp_wire::{Direction, ExtensionMap, Pt};
@@ -136,6 +136,6 @@ pub fn answered_section(
         dir: answered_direction(offer.dir, wanted.dir),
         rows: answered_rows(alloc, config, offer)?,
         extmaps: answered_extmaps(alloc, exts, offer.extmaps.as_slice())?,
-        sources: plain_sources(alloc, wanted.ssrcs.as_slice())?,
+        sources: sources_wanted(alloc, wanted)?,
     })
 }

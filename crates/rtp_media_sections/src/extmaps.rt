@@ -1,6 +1,6 @@
 //! The header extensions that sections list.
 
-ghost use Rattle.std.specs.Prelude.{◌≡◌, IfOk, OnOk};
+ghost use Rattle.std.specs.Prelude.{◌≡◌, length, IfOk, OnOk};
 ghost use Rattle.std.specs.List.{list_all};
 ghost use Rattle.rtp_media_sections.specs.Extensions.{answered_extmaps, entries_of, is_answered, is_numbered};
 ghost use Rattle.rtp_media_sections.specs.Extensions.{is_word, is_word_byte, is_writable_map, map_of_extmaps};
@@ -29,7 +29,8 @@ fn is_word(text: &str) -> bool
 
 /// Whether each extension of a map can stand in a line: its text isn't empty, and has neither a blank nor a line end.
 pub fn is_writable(exts: &ExtensionMap) -> bool
-    ensures { result ≡ is_writable_map exts.now }
+    ensures writable { result ≡ is_writable_map exts.now }
+    ensures numbers { length exts.now ≡ 16 }
 {
     let mut writable = true;
     for (_, ext) in exts.iter() {

@@ -29,4 +29,4 @@ pub use sdp_formats_rounds::{
     Codec, CodecConfig, CodecSpec, FormatParams, PayloadParams, RoundError,
 };
 pub use sections::{Section, Source};
-pub use wanted::SectionSpec;
+pub use wanted::{SectionSpec, are_sound};

@@ -3,12 +3,13 @@
 ghost use Rattle.std.specs.Prelude.{◌≡◌, ◌++◌, IfOk, OnOk, map};
 ghost use Rattle.sdp_formats_rounds.specs.Types.{types_of, listed};
 ghost use Rattle.rtp_media_sections.specs.Extensions.{extmap_line};
-ghost use Rattle.rtp_media_sections.specs.Lines.{line_of, row_lines, section_lines, source_line};
+ghost use Rattle.rtp_media_sections.specs.Lines.{line_of, pair_line, row_lines, section_lines, source_line};
 ghost use Rattle.rtp_media_sections.specs.Lines.{type_of, types_listed};
 
+use crate::repairs::repairs_in;
 use crate::sections::{Section, Source};
 use payload_core_base::MediaKind;
-use rtp_wire::{Extension, Pt};
+use rtp_wire::{Extension, Pt, Ssrc};
 use sdp_formats_data::{Listed, MediaAttribute, MediaLine, MediaType, Proto, Text};
 use sdp_formats_rounds::PayloadParams;
 use sdp_formats_section_rows::AsMediaAttrs;
@@ -108,6 +109,28 @@ fn push_sources(
     Ok(())
 }
 
+fn pair_line(alloc: Global, pair: &(Ssrc, Ssrc)) -> Result<MediaAttribute, AllocError>
+    ensures { IfOk result (λ line. line ≡ pair_line pair.now) }
+{
+    Ok(MediaAttribute::SsrcGroup {
+        semantics: Text::of(String::from_str(alloc, "FID")?),
+        ssrcs: Listed::of(vec![in alloc; pair.0, pair.1]?),
+    })
+}
+
+fn push_pairs(
+    alloc: Global,
+    attrs: &mut Vec<MediaAttribute>,
+    pairs: &[(Ssrc, Ssrc)],
+) -> Result<(), AllocError>
+    ensures { OnOk result (attrs.new.items ≡ attrs.old.items ++ map pair_line pairs.now) }
+{
+    for pair in pairs {
+        attrs.push(pair_line(alloc, pair)?)?;
+    }
+    Ok(())
+}
+
 /// The lines of a section of media: its name, direction, extensions, rows and sources.
 fn section_lines(alloc: Global, section: &Section) -> Result<Vec<MediaAttribute>, AllocError>
     ensures { IfOk result (λ lines. lines.items ≡ section_lines section.now) }
@@ -117,6 +140,8 @@ fn section_lines(alloc: Global, section: &Section) -> Result<Vec<MediaAttribute>
     lines.push(MediaAttribute::from(section.dir))?;
     push_extmaps(alloc, &mut lines, section.extmaps.as_slice())?;
     push_rows(alloc, &mut lines, section.rows.as_slice())?;
+    let pairs = repairs_in(alloc, section.sources.as_slice())?;
+    push_pairs(alloc, &mut lines, pairs.as_slice())?;
     push_sources(alloc, &mut lines, section.sources.as_slice())?;
     Ok(lines)
 }

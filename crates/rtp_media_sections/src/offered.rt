@@ -1,7 +1,7 @@
 //! What an offer says.
 
-ghost use Rattle.std.specs.Prelude.{◌≡◌, IfOk, map};
-ghost use Rattle.rtp_media_sections.specs.Offered.{offered_section, plain_source};
+ghost use Rattle.std.specs.Prelude.{◌≡◌, ◌++◌, IfOk, OnOk, map};
+ghost use Rattle.rtp_media_sections.specs.Offered.{offered_section, plain_source, repair_source, sources_wanted};
 
 use crate::extmaps::entries_of;
 use crate::sections::{Section, Source};
@@ -11,7 +11,7 @@ use sdp_formats_rounds::CodecConfig;
 use std::alloc::{AllocError, Global};
 
 /// Sources that repair none.
-pub(crate) fn plain_sources(alloc: Global, ssrcs: &[Ssrc]) -> Result<Vec<Source>, AllocError>
+fn plain_sources(alloc: Global, ssrcs: &[Ssrc]) -> Result<Vec<Source>, AllocError>
     ensures { IfOk result (λ sources. sources.items ≡ map plain_source ssrcs.now) }
 {
     let mut sources = Vec::new(alloc);
@@ -21,6 +21,27 @@ pub(crate) fn plain_sources(alloc: Global, ssrcs: &[Ssrc]) -> Result<Vec<Source>
             repairs: None,
         })?;
     }
+    Ok(sources)
+}
+
+fn push_repairing(sources: &mut Vec<Source>, repairs: &[(Ssrc, Ssrc)]) -> Result<(), AllocError>
+    ensures { OnOk result (sources.new.items ≡ sources.old.items ++ map repair_source repairs.now) }
+{
+    for pair in repairs {
+        sources.push(Source {
+            ssrc: pair.1,
+            repairs: Some(pair.0),
+        })?;
+    }
+    Ok(())
+}
+
+/// The sources of a wanted section: its SSRCs, and behind them those of their repairs.
+pub(crate) fn sources_wanted(alloc: Global, wanted: &SectionSpec) -> Result<Vec<Source>, AllocError>
+    ensures { IfOk result (λ sources. sources.items ≡ sources_wanted wanted.now) }
+{
+    let mut sources = plain_sources(alloc, wanted.ssrcs.as_slice())?;
+    push_repairing(&mut sources, wanted.repairs.as_slice())?;
     Ok(sources)
 }
 
@@ -45,6 +66,6 @@ pub fn offered_section(
         dir: wanted.dir,
         rows: config.all_for_kind(wanted.kind, true)?,
         extmaps: entries_of(alloc, exts)?,
-        sources: plain_sources(alloc, wanted.ssrcs.as_slice())?,
+        sources: sources_wanted(alloc, wanted)?,
     })
 }

@@ -1,5 +1,10 @@
 //! Sections as an end wants them.
 
+ghost use Rattle.std.specs.Prelude.{◌≡◌, ◌↔◌, IsTrue};
+ghost use Rattle.rtp_media_sections.specs.Repairs.{ArePairsOf};
+ghost use Rattle.rtp_media_sections.specs.Sections.{are_sound, is_sound};
+
+use crate::repairs::are_sound_pairs;
 use payload_core_base::MediaKind;
 use rtp_wire::{Direction, Mid, Ssrc};
 use std::marker::Model;
@@ -15,6 +20,8 @@ pub struct SectionSpec {
     pub dir: Direction,
     /// The SSRCs that this end sends under (RFC 5576 4.1).
     pub ssrcs: Vec<Ssrc>,
+    /// Pairs of one of them and the SSRC under which its packets are sent again (RFC 4588 8.3).
+    pub repairs: Vec<(Ssrc, Ssrc)>,
 }
 
 impl Model for SectionSpec {
@@ -22,5 +29,29 @@ impl Model for SectionSpec {
 
     ghost Value = { Wanted };
 
-    ghost view = { λ s. record { mid = s.mid; kind = s.kind; dir = s.dir; ssrcs = s.ssrcs.items } };
+    ghost view = { λ s. record {
+      mid = s.mid;
+      kind = s.kind;
+      dir = s.dir;
+      ssrcs = s.ssrcs.items;
+      repairs = s.repairs.items;
+    } };
+}
+
+impl SectionSpec {
+    /// Whether the repairs fit the SSRCs: the repaired ones are distinct and each is one of the SSRCs, those of the
+    /// repairs are distinct and none is one of them. It is so without repairs.
+    pub fn is_sound(&self) -> bool
+        ensures value { result ≡ is_sound self.now }
+        ensures exactly { IsTrue result ↔ ArePairsOf self.now.ssrcs self.now.repairs }
+    {
+        are_sound_pairs(self.ssrcs.as_slice(), self.repairs.as_slice())
+    }
+}
+
+/// Whether each section is sound.
+pub fn are_sound(sections: &[SectionSpec]) -> bool
+    ensures { result ≡ are_sound sections.now }
+{
+    sections.iter().all(|section| section.is_sound())
 }

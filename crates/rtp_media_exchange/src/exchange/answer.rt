@@ -1,9 +1,10 @@
 //! Answers to offers, and their acceptance.
 
-ghost use Rattle.std.specs.Prelude.{◌≡◌, string_bytes, IfOk, IfErr, OnOk, OnErr};
+ghost use Rattle.std.specs.Prelude.{◌≡◌, string_bytes, IfOk, IfErr, IsTrue, OnOk, OnErr};
 ghost use Rattle.rtp_media_exchange.specs.Offers.{Accepts, Answers};
 ghost use Rattle.rtp_media_exchange.specs.Refusals.{MayAccept, MayAnswer, RefusesAccept, RefusesAnswer};
 ghost use Rattle.rtp_media_exchange.specs.Says.{AgreesOnText};
+ghost use Rattle.rtp_media_sections.specs.Sections.{are_sound};
 
 use super::Exchange;
 use crate::agree::accepted_agreement;
@@ -11,13 +12,17 @@ use crate::answering::written;
 use crate::errors::ExchangeError;
 use crate::said_sections::read;
 use rtp_media_section_laws::{
-    printable_sections_law, printed_sections_law, read_sections_keep_rows,
+    printable_sections_law, printed_sections_law, read_sections_keep_rows, wanted_sections_law,
 };
 use rtp_media_sections::SectionSpec;
 
 impl Exchange {
     /// The text of the answer to an offer, of these sections; it is then agreed. A round runs with each offered
     /// section: rows that match are locked under the types that were offered, and the answer lists those of them.
+    ///
+    /// # Conditions
+    ///
+    /// The repairs of each section fit its SSRCs (`SectionSpec::is_sound`).
     ///
     /// # Errors
     ///
@@ -28,6 +33,7 @@ impl Exchange {
         text: &str,
         sections: Vec<SectionSpec>,
     ) -> Result<String, ExchangeError>
+        requires sound { IsTrue (are_sound sections.items) }
         ensures text { IfOk result (λ answer. Answers self.old text.now sections.items (string_bytes answer) self.new) }
         ensures agreed { IfOk result (λ answer. AgreesOnText (string_bytes answer) self.new.agreed) }
         ensures accepted { OnOk result (MayAnswer self.old text.now sections.items) }
@@ -46,6 +52,7 @@ impl Exchange {
         printed_sections_law();
         printable_sections_law();
         read_sections_keep_rows();
+        wanted_sections_law();
         self.config = config;
         self.agreed = agreed;
         Ok(text)

@@ -1,6 +1,6 @@
 //! What the sections of a text come to at an end.
 
-ghost use Rattle.std.specs.Prelude.{◌≡◌, None, Ok, Some, length, map, IfOk, IfErr, OnOk};
+ghost use Rattle.std.specs.Prelude.{◌≡◌, None, Ok, Some, length, map, IfOk, IfErr, IsTrue, OnOk};
 ghost use Rattle.sdp_formats_rounds.specs.Laws.{rounds};
 ghost use Rattle.rtp_media_exchange.specs.Offers.{answered_sections};
 ghost use Rattle.rtp_media_exchange.specs.Answering.{HasWidths};
@@ -8,13 +8,14 @@ ghost use Rattle.rtp_media_exchange.specs.Refusals.{Refuses, no_answer, not_writ
 ghost use Rattle.rtp_media_exchange.specs.Refusals.{refusal_of_answer, refusal_of_sections};
 ghost use Rattle.sdp_formats_rounds.specs.Members.{IsEach};
 ghost use Rattle.rtp_media_sections.specs.Lines.{remote_of};
+ghost use Rattle.rtp_media_sections.specs.Sections.{corresponds};
 
 use super::Exchange;
 use crate::answering::answered_sections;
 use crate::errors::ExchangeError;
+use crate::offered::check_named;
 use crate::settle::{check_accepted, check_media, settled};
 use crate::widths::pass_sections;
-use crate::writable::check_written;
 use rtp_media_sections::{CodecConfig, Section, SectionSpec, corresponds, may_follow};
 
 impl Exchange {
@@ -28,6 +29,7 @@ impl Exchange {
         ensures rows { IfOk result (λ c. rounds (map remote_of sections.now) self.now.config.rows ≡ Ok c.rows) }
         ensures distances { IfOk result (λ c. c.distances ≡ self.now.config.distances) }
         ensures length { OnOk result (length wanted.now ≡ length sections.now) }
+        ensures shapes { OnOk result (IsTrue (corresponds sections.now wanted.now)) }
         ensures accepted { OnOk result (refusal_of_sections self.now sections.now wanted.now ≡ None) }
         ensures refused { IfErr result (λ e. Refuses e (refusal_of_sections self.now sections.now wanted.now)) }
     {
@@ -44,8 +46,8 @@ impl Exchange {
     ///
     /// # Errors
     ///
-    /// The first that holds of `OutOfTurn`, `NotMedia`, `NotCorresponding`, `Round`, `NoCommonRow` and `NotWritable`; or
-    /// `Memory`.
+    /// The first that holds of `OutOfTurn`, `NotMedia`, `NotCorresponding`, `Round`, `NoCommonRow` and `NotWritable`;
+    /// or `Memory`.
     #[tactic(auto, unfolding(crate::specs::Refusals::refusal_of_answer))]
     pub(crate) fn settle_answer(
         &self,
@@ -55,10 +57,11 @@ impl Exchange {
         ensures rows { IfOk result (λ s. rounds (map remote_of offer.now) self.now.config.rows ≡ Ok s.0.rows) }
         ensures distances { IfOk result (λ s. s.0.distances ≡ self.now.config.distances) }
         ensures length { OnOk result (length wanted.now ≡ length offer.now) }
+        ensures shapes { OnOk result (IsTrue (corresponds offer.now wanted.now)) }
         ensures answer { IfOk result (λ s. s.1.items
             ≡ answered_sections self.now.wanted s.0.rows wanted.now offer.now) }
         ensures listed { IfOk result (λ s. no_answer s.0.rows offer.now ≡ None) }
-        ensures written { IfOk result (λ s. not_written wanted.now s.1.items ≡ None) }
+        ensures written { OnOk result (not_written wanted.now ≡ None) }
         ensures widths { OnOk result (IsEach HasWidths wanted.now) }
         ensures free { OnOk result (self.now.pending ≡ None) }
         ensures accepted { OnOk result (refusal_of_answer self.now offer.now wanted.now ≡ None) }
@@ -69,7 +72,7 @@ impl Exchange {
         }
         let config = self.settle(offer, wanted)?;
         let answer = answered_sections(self.alloc, &self.exts, &config, wanted, offer)?;
-        check_written(wanted, answer.as_slice())?;
+        check_named(wanted)?;
         pass_sections(wanted);
         Ok((config, answer))
     }

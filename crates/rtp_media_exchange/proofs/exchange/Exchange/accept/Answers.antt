@@ -35,5 +35,5 @@ invariant_of-self c =
     let before = c.self.inside.config.rows in
     let rows = c.in_ok-config.config.rows in
     let rounds_are : rounds (map remote_of answer) before ≡ Ok rows = grind (arith, common_steps) in
-    rounds_kept c.read_sections_keep_rows.ensures c.self.inside.session before rows c.args.text.now answer
-    c.in_ok-answer.ensures.says rounds_are c.self.invariant
+    rounds_kept c.read_sections_keep_rows.ensures c.self.inside.session c.self.inside.exts before rows c.args.text.now
+    answer c.in_ok-answer.ensures.says rounds_are c.self.invariant
