@@ -1,5 +1,5 @@
 -- All datagrams of a sending stream arrive, and the polls answer its units.
-use Rattle.std.proofs.Common.{◌≡◌, ℕ, zero, suc, ◌+◌, ◌-◌, ◌%◌, ◌<◌, ◌≤◌, refl, sym, ◌∙◌, ap, ap₂, subst, subst₂}
+use Rattle.std.proofs.Common.{◌≡◌, ℕ, zero, suc, ◌+◌, ◌-◌, ◌%◌, ◌<◌, ◌≤◌, refl, sym, ◌∙◌, ap, ap₂, subst}
 use Rattle.std.proofs.Common.{arith, Bool, true, false, cond, List, [], ◌∷◌, ◌++◌, length, map, replicate, true≢false}
 use Rattle.std.specs.Prelude.{Option, Some, None, Result, Ok, if◌then◌else◌, filter, slice_index_or}
 use Rattle.std.specs.List.{filter_map, cons_option}

@@ -1,6 +1,7 @@
 pub use Rattle.rtp_media_stream_table.proofs.NewReceiver
 pub use Rattle.rtp_media_exchange.proofs.OneAgreement
 pub mod BareSession
+pub mod Beside
 pub mod Datagrams
 pub mod Exact
 pub mod Isolation
@@ -9,6 +10,8 @@ pub mod Opened
 pub mod OpenedReceiver
 pub mod Refusals
 pub mod Repaired
+pub mod RepairedArrivals
 pub mod Rising
+pub mod SentRepairs
 pub mod Stopping
 pub mod Transparent

@@ -58,7 +58,7 @@ sends-at e mid ssrc pt h = go (section_of e.exchange.agreed mid) refl h where
   with-row a is None row h = absurd (no-some _ h)
   with-row a is (Some row) found h =
       let all : AllHold (own_row_agrees e.exchange.config.rows row) a.sends (is_named a.own_ssrcs ssrc)
-      (list_any (sends_as ssrc (types_of row)) e.streams) = all-hold _ _ _ _ h in
+      (list_any (sends_as ssrc (types_of row ssrc a.own_repairs)) e.streams) = all-hold _ _ _ _ h in
       let there : IsCarried (row_in a.rows pt) row = carried-is (row_in a.rows pt) row found in
       record {
         section = a;
@@ -86,7 +86,7 @@ may-send e mid ssrc pt at =
     ∙ ap (λ (o : Option Row). sender_refusal_of e.exchange.config.rows a e.streams ssrc pt o)
     (is-carried (row_in a.rows pt) at.row at.row_is at.carried)
     ∙ none-refuses (own_row_agrees e.exchange.config.rows at.row) a.sends (is_named a.own_ssrcs ssrc)
-    (list_any (sends_as ssrc (types_of at.row)) e.streams)
+    (list_any (sends_as ssrc (types_of at.row ssrc a.own_repairs)) e.streams)
     (record { agree = at.own_row; flow = at.flows; name = at.named; first = at.not_open })
 
 pub receives-at : (e : EndState) (mid : List ℕ) (ssrc pt : ℕ) → refusal_of_open_receiver e mid ssrc pt ≡ None
@@ -98,7 +98,7 @@ receives-at e mid ssrc pt h = go (section_of e.exchange.agreed mid) refl h where
   with-row a is None row h = absurd (no-some _ h)
   with-row a is (Some row) found h =
       let all : AllHold (own_row_agrees e.exchange.config.rows row) a.receives (is_named a.remote_ssrcs ssrc)
-      (list_any (receives_as ssrc (types_of row)) e.streams) = all-hold _ _ _ _ h in
+      (list_any (receives_as ssrc (types_of row ssrc a.remote_repairs)) e.streams) = all-hold _ _ _ _ h in
       let there : IsCarried (row_in a.rows pt) row = carried-is (row_in a.rows pt) row found in
       record {
         section = a;
@@ -126,5 +126,5 @@ may-receive e mid ssrc pt at =
     ∙ ap (λ (o : Option Row). receiver_refusal_of e.exchange.config.rows a e.streams ssrc pt o)
     (is-carried (row_in a.rows pt) at.row at.row_is at.carried)
     ∙ none-refuses (own_row_agrees e.exchange.config.rows at.row) a.receives (is_named a.remote_ssrcs ssrc)
-    (list_any (receives_as ssrc (types_of at.row)) e.streams)
+    (list_any (receives_as ssrc (types_of at.row ssrc a.remote_repairs)) e.streams)
     (record { agree = at.own_row; flow = at.flows; name = at.named; first = at.not_open })

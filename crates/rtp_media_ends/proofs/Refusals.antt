@@ -21,7 +21,7 @@ pub sender-refusal : (own : List Row) (agreed : List Agreed) (streams : List Ope
     (ssrc pt : ℕ) (a : Agreed) (row : Row) (agrees flows names is_open : Bool) →
     section_of agreed mid ≡ Some a → carried_row a pt ≡ Some row → agrees ≡ own_row_agrees own row
     → flows ≡ a.sends → names ≡ is_named a.own_ssrcs ssrc → is_open
-    ≡ list_any (sends_as ssrc (types_of row)) streams →
+    ≡ list_any (sends_as ssrc (types_of row ssrc a.own_repairs)) streams →
     sender_refusal_in own (section_of agreed mid) streams ssrc pt ≡ refusal_by agrees flows names is_open
 sender-refusal own agreed streams mid ssrc pt a row agrees flows names is_open s r g f n o =
     rw (s, r, g, f, n, o) refl
@@ -30,7 +30,7 @@ pub receiver-refusal : (own : List Row) (agreed : List Agreed) (streams : List O
     (ssrc pt : ℕ) (a : Agreed) (row : Row) (agrees flows names is_open : Bool) →
     section_of agreed mid ≡ Some a → carried_row a pt ≡ Some row → agrees ≡ own_row_agrees own row
     → flows ≡ a.receives → names ≡ is_named a.remote_ssrcs ssrc → is_open
-    ≡ list_any (receives_as ssrc (types_of row)) streams →
+    ≡ list_any (receives_as ssrc (types_of row ssrc a.remote_repairs)) streams →
     receiver_refusal_in own (section_of agreed mid) streams ssrc pt ≡ refusal_by agrees flows names is_open
 receiver-refusal own agreed streams mid ssrc pt a row agrees flows names is_open s r g f n o =
     rw (s, r, g, f, n, o) refl

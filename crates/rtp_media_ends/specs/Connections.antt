@@ -7,7 +7,8 @@ use Rattle.rtp_media_exchange.specs.Refusals.{MayAccept, MayAnswer, Refuses, Ref
 use Rattle.rtp_media_exchange.specs.Refusals.{refusal_of_offer}
 use Rattle.rtp_media_exchange.specs.Says.{AgreesOnText}
 use Rattle.rtp_media_exchange.specs.declared.ExchangeError.{ExchangeError}
-use Rattle.rtp_media_exchange.specs.Agreement.{Agreed, agreed_map_of, agreed_row_of}
+use Rattle.rtp_media_exchange.specs.Agreement.{Agreed, agreed_map_of, agreed_row_of, own_repairs_of}
+use Rattle.rtp_media_exchange.specs.Agreement.{remote_repairs_of}
 use Rattle.rtp_media_exchange.specs.Sections.{Wanted}
 use Rattle.rtp_media_ends.specs.Ends.{EndState, with_exchange}
 
@@ -32,10 +33,13 @@ pub record Connects (a b : EndState) (sections_a sections_b : List Wanted) (offe
   pub streams_a : after_a ≡ with_exchange a after_a.exchange
   pub streams_b : after_b ≡ with_exchange b after_b.exchange
 
--- Two ends have exchanged texts: what each agreed on is what the answer's text says.
+-- Two ends have exchanged texts: what each agreed on is what the answer's text says, and each takes the repairs that
+-- the other one names.
 pub record HaveExchanged (answer : List ℕ) (a b : EndState) : Type 0 where
   pub first : AgreesOnText answer a.exchange.agreed
   pub second : AgreesOnText answer b.exchange.agreed
+  pub repairs_to : (mid : List ℕ) → own_repairs_of a.exchange.agreed mid ≡ remote_repairs_of b.exchange.agreed mid
+  pub repairs_from : (mid : List ℕ) → own_repairs_of b.exchange.agreed mid ≡ remote_repairs_of a.exchange.agreed mid
 
 -- Both have one row of each type, and one map of header extensions, in each section.
 pub record HaveOneAgreement (a b : List Agreed) : Type 0 where

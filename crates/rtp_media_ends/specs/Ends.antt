@@ -9,13 +9,15 @@ use Rattle.rtp_media_streams.specs.Sending.{Sending, opened_sender, redundant_se
 use Rattle.rtp_media_streams.specs.Receiving.{Receiving, opened_receiver}
 use Rattle.rtp_media_streams.specs.declared.row_format.RowFormat.{RowFormat}
 use Rattle.rtp_media_streams.specs.declared.types.PayloadTypes.{PayloadTypes}
+use Rattle.rtp_media_streams.specs.declared.types.RepairKey.{RepairKey}
 use Rattle.rtp_media_exchange.specs.Rows.{Row}
 use Rattle.rtp_media_exchange.specs.Configs.{Config}
 use Rattle.rtp_media_exchange.specs.Exchanges.{Exchanged, fresh, fixed}
 use Rattle.sdp_formats_data.specs.declared.session.Session.{Session}
 use Rattle.rtp_media_exchange.specs.Agreement.{Agreed, agreed_map_of, agreed_row_of, is_named, own_row_agrees}
-use Rattle.rtp_media_exchange.specs.Agreement.{row_in}
+use Rattle.rtp_media_exchange.specs.Agreement.{own_repairs_of, remote_repairs_of, row_in}
 use Rattle.rtp_media_exchange.specs.Agreement.{section_of}
+use Rattle.rtp_media_sections.specs.Repairs.{repairing_of}
 use Rattle.rtp_media_stream_table.specs.declared.open_stream.OpenStream.{OpenStream}
 use Rattle.rtp_media_stream_table.specs.declared.open_stream.OpenStream.TheVariants.{Sender, Receiver}
 use Rattle.rtp_media_ends.specs.declared.params.StreamParams.{StreamParams}
@@ -57,9 +59,20 @@ with_new_sender e s = with_streams e (e.streams ++ Sender s ∷ [])
 abbrev pub with_new_receiver : EndState → Receiving → EndState
 with_new_receiver e r = with_streams e (e.streams ++ Receiver r ∷ [])
 
--- The payload types of a row.
-abbrev pub types_of : Row → PayloadTypes
-types_of row = record { pt = row.pt; red = row.red; repair = None }
+-- The SSRC and type of a stream's repairs (RFC 4588 8.1 and 8.3): the SSRC that repairs the stream's, where it is another
+-- one, and the row's type for retransmissions, where it has 7 bits.
+abbrev pub key_of : ℕ → Option ℕ → Option ℕ → Option RepairKey
+key_of ssrc (Some pt) (Some repair) =
+    if nat_le pt 127 && not (repair == ssrc) then Some (record { ssrc = repair; pt = pt }) else None
+key_of ssrc None repair = None
+key_of ssrc (Some pt) None = None
+
+-- The payload types of a row's stream under an SSRC, which this one repairs; and whose sender names these repairs.
+abbrev pub types_by : Row → ℕ → Option ℕ → PayloadTypes
+types_by row ssrc repair = record { pt = row.pt; red = row.red; repair = key_of ssrc row.resend repair }
+
+abbrev pub types_of : Row → ℕ → List (ℕ × ℕ) → PayloadTypes
+types_of row ssrc repairs = types_by row ssrc (repairing_of repairs ssrc)
 
 -- What a row says of its payloads.
 abbrev pub row_format_of : Row → RowFormat
@@ -125,7 +138,7 @@ abbrev pub sender_refusal_of : List Row → Agreed → List OpenStream → ℕ �
 sender_refusal_of own a streams ssrc pt None = Some (refusal_of_row (row_in a.rows pt))
 sender_refusal_of own a streams ssrc pt (Some row) =
     refusal_by (own_row_agrees own row) a.sends (is_named a.own_ssrcs ssrc)
-    (list_any (sends_as ssrc (types_of row)) streams)
+    (list_any (sends_as ssrc (types_of row ssrc a.own_repairs)) streams)
 
 abbrev pub sender_refusal_in : List Row → Option Agreed → List OpenStream → ℕ → ℕ → Option OpenError
 sender_refusal_in own None streams ssrc pt = Some NoSection
@@ -135,7 +148,7 @@ abbrev pub receiver_refusal_of : List Row → Agreed → List OpenStream → ℕ
 receiver_refusal_of own a streams ssrc pt None = Some (refusal_of_row (row_in a.rows pt))
 receiver_refusal_of own a streams ssrc pt (Some row) =
     refusal_by (own_row_agrees own row) a.receives (is_named a.remote_ssrcs ssrc)
-    (list_any (receives_as ssrc (types_of row)) streams)
+    (list_any (receives_as ssrc (types_of row ssrc a.remote_repairs)) streams)
 
 abbrev pub receiver_refusal_in : List Row → Option Agreed → List OpenStream → ℕ → ℕ → Option OpenError
 receiver_refusal_in own None streams ssrc pt = Some NoSection
@@ -163,17 +176,22 @@ row_format_in (Some row) = row_format_of row
 abbrev pub agreed_format : EndState → List ℕ → ℕ → RowFormat
 agreed_format e mid pt = row_format_in (agreed_row_of e.exchange.agreed mid pt)
 
--- The payload types of a new stream, and its RED type.
-abbrev pub types_in : Option Row → PayloadTypes
-types_in None = no_types
-types_in (Some row) = types_of row
+-- The payload types of a new stream, which sends or receives, and its RED type.
+abbrev pub types_in : Option Row → ℕ → List (ℕ × ℕ) → PayloadTypes
+types_in None ssrc repairs = no_types
+types_in (Some row) ssrc repairs = types_of row ssrc repairs
 
 abbrev pub red_in : Option Row → Option ℕ
 red_in None = None
 red_in (Some row) = row.red
 
-abbrev pub agreed_types : EndState → List ℕ → ℕ → PayloadTypes
-agreed_types e mid pt = types_in (agreed_row_of e.exchange.agreed mid pt)
+abbrev pub sender_types : EndState → List ℕ → ℕ → ℕ → PayloadTypes
+sender_types e mid ssrc pt =
+    types_in (agreed_row_of e.exchange.agreed mid pt) ssrc (own_repairs_of e.exchange.agreed mid)
+
+abbrev pub receiver_types : EndState → List ℕ → ℕ → ℕ → PayloadTypes
+receiver_types e mid ssrc pt =
+    types_in (agreed_row_of e.exchange.agreed mid pt) ssrc (remote_repairs_of e.exchange.agreed mid)
 
 abbrev pub agreed_red : EndState → List ℕ → ℕ → Option ℕ
 agreed_red e mid pt = red_in (agreed_row_of e.exchange.agreed mid pt)
@@ -183,11 +201,11 @@ abbrev pub with_distances : Sending → Option ℕ → Option (List ℕ) → Sen
 with_distances s red None = s
 with_distances s red (Some distances) = redundant_sender s (unwrap_or red 0) distances
 
--- A new stream that sends a row under a map.
-abbrev pub row_sender : ℕ → Row → Numbering → StreamParams → Sending
-row_sender ssrc row exts params =
+-- A new stream that sends a row under these types and a map.
+abbrev pub row_sender : ℕ → PayloadTypes → Row → Numbering → StreamParams → Sending
+row_sender ssrc types row exts params =
     with_distances
-    (opened_sender ssrc (types_of row) exts (row_format_of row) params.picture_id params.for_browsers params.first
+    (opened_sender ssrc types exts (row_format_of row) params.picture_id params.for_browsers params.first
     params.mtu params.limit)
     row.red params.red
 
@@ -195,14 +213,14 @@ row_sender ssrc row exts params =
 abbrev pub new_sender : EndState → List ℕ → ℕ → ℕ → StreamParams → Sending
 new_sender e mid ssrc pt params =
     with_distances
-    (opened_sender ssrc (agreed_types e mid pt) (stream_map e mid) (agreed_format e mid pt) params.picture_id
+    (opened_sender ssrc (sender_types e mid ssrc pt) (stream_map e mid) (agreed_format e mid pt) params.picture_id
     params.for_browsers params.first params.mtu params.limit)
     (agreed_red e mid pt) params.red
 
 -- The stream that it opens to receive that row under that map.
 abbrev pub new_receiver : EndState → List ℕ → ℕ → ℕ → Holding → Receiving
 new_receiver e mid ssrc pt holding =
-    opened_receiver ssrc (agreed_types e mid pt) (stream_map e mid) (agreed_format e mid pt) holding
+    opened_receiver ssrc (receiver_types e mid ssrc pt) (stream_map e mid) (agreed_format e mid pt) holding
 
 -- The end with a sending stream more.
 unfoldable pub after_open_sender : EndState → List ℕ → ℕ → ℕ → StreamParams → EndState

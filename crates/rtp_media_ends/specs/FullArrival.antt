@@ -17,6 +17,7 @@ use Rattle.rtp_media_streams.specs.Types.{is_key_of}
 use Rattle.rtp_media_streams.specs.declared.types.PayloadTypes.{PayloadTypes}
 use Rattle.rtp_media_ends.specs.Ends.{EndState, receiver_at, with_streams}
 use Rattle.rtp_media_ends.specs.EndArrivals.{verdict_of, after_datagram}
+use Rattle.rtp_media_ends.specs.Repairs.{IsKeyBeside}
 use Rattle.rtp_media_stream_table.specs.Arrivals.{stream_for}
 use Rattle.rtp_media_stream_table.specs.declared.received.Received.{Received}
 use Rattle.rtp_media_stream_table.specs.Polled.{ArePolledSome}
@@ -83,13 +84,16 @@ pub record HasReceiver (e : EndState) (stream : ℕ) (r : Receiving) : Type 0 wh
   pub found : IsFound e stream r
 
 -- A sending stream as an end opens it and keeps it: its types are of 7 bits, its datagrams are typed so, its
--- SSRC has 32 bits, and the codec law speaks of what its packetizer keeps.
+-- SSRC has 32 bits, the codec law speaks of what its packetizer keeps, and its repairs come under another SSRC and
+-- have numbers of 16 bits.
 pub record IsSender (s : Sending) : Type 0 where
   pub typed : IsTyped s
   pub payload_type : s.types.pt < 128
   pub wire_type : s.wire_type < 128
   pub ssrc : s.ssrc < 2 ^ 32
   pub reached : (coding_of s).IsReached s.packetizer
+  pub beside : IsKeyBeside s.ssrc s.types.repair
+  pub repairs : s.repairs < 65536
 
 -- Samples that a stream sends: each is well-formed for its codec, and its values can be written.
 pub record AreSound (s : Sending) (samples : List Sample) : Type 0 where

@@ -1,6 +1,7 @@
 //! An end of a session.
 
-ghost use Rattle.std.specs.Prelude.{◌≡◌, ◌≢◌, ◌<◌, Some, None, true, OnOk, IfOk, IfErr};
+ghost use Rattle.std.specs.Prelude.{◌≡◌, ◌≢◌, ◌≤◌, Some, None, Ok, Err, true, length, OnOk, OnErr, IfOk, IfErr};
+ghost use Rattle.rtp_media_streams.specs.Repairing.{repair, with_repair};
 ghost use Rattle.rtp_media_streams.specs.Sending.{HasFailed, sent_datagrams, after_sample, refusal_of_sample};
 ghost use Rattle.rtp_media_exchange.specs.Agreement.{agreed_row_of};
 ghost use Rattle.rtp_media_ends.specs.Ends.{agreed_red, fixed_end, sender_at, with_sender, is_receiver_at};
@@ -15,7 +16,7 @@ pub use exchanges::connect;
 pub use receive_all::ReceivedAll;
 use rtp_media_exchange::{AgreedSection, EndError, Exchange, PayloadParams};
 use rtp_media_stream_table::StreamTable;
-use rtp_media_streams::{Datagram, SampleError};
+use rtp_media_streams::{Datagram, RepairError, SampleError};
 use rtp_wire::{ExtensionValues, Frequency, MediaTime, Mid, Pt};
 use std::alloc::Global;
 use std::marker::Model;
@@ -154,5 +155,29 @@ impl End {
     {
         let streams = &mut self.streams;
         streams.push_sample(stream, time, bytes, values)
+    }
+
+    /// The repair of a datagram that a sending stream sent (RFC 4588 4): the datagram under the SSRC, the type and the
+    /// next number of the stream's repairs, with the two bytes of its own number behind the header. All other bytes
+    /// stay: marker, timestamp, header extensions, padding. It has at most `limit` bytes. A stream that failed repairs
+    /// too.
+    ///
+    /// # Conditions
+    /// The number is that of a sending stream: [`End::is_sender`].
+    ///
+    /// # Errors
+    /// The first that holds of `NoRepair`, `NotOwn` and `LimitTooSmall`; or `Memory`. The end is then unchanged.
+    pub fn repair(&mut self, stream: usize, datagram: &[u8]) -> Result<Datagram, RepairError>
+        requires { is_sender_at self.old stream ≡ true }
+        ensures repaired { IfOk result (λ d. repair (sender_at self.old stream) datagram.now ≡ Ok d) }
+        ensures within { IfOk result (λ d. length d ≤ (sender_at self.old stream).limit) }
+        ensures after { OnOk result (self.new ≡ with_sender self.old stream
+            (with_repair (sender_at self.old stream))) }
+        ensures refused { IfErr result (λ e. e ≢ RepairError.Memory
+            → repair (sender_at self.old stream) datagram.now ≡ Err e) }
+        ensures unchanged { OnErr result (self.new ≡ self.old) }
+    {
+        let streams = &mut self.streams;
+        streams.repair(stream, datagram)
     }
 }

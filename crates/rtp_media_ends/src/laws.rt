@@ -4,6 +4,7 @@ ghost use Rattle.std.specs.Prelude.{◌≡◌, ◌↔◌, ℕ, List, map, None, 
 ghost use Rattle.rtp_media_streams.specs.Repairing.{repair};
 ghost use Rattle.rtp_media_ends.specs.Repairs.{IsHeaded, TakesRepairs};
 ghost use Rattle.rtp_media_schedules.specs.Hearing.{after_events};
+ghost use Rattle.rtp_media_ends.specs.EndArrivals.{after_datagram, verdict_of};
 ghost use Rattle.rtp_media_ends.specs.Ends.{EndState, receiver_at, refusal_of_open_receiver};
 ghost use Rattle.rtp_media_ends.specs.Ends.{refusal_of_open_sender};
 ghost use Rattle.rtp_media_ends.specs.OpensAt.{ReceivesAt, SendsAt};
@@ -25,12 +26,18 @@ pub fn isolation_law()
         ≡ after_events (format_of receiver.row) receiver.stream (own_events receiver datagrams) }
 {}
 
-/// A repair that a sending stream answers is to its receiving stream what the datagram is that it wraps: the arrival of
-/// that one's number with its content, or nothing (RFC 4588 4).
+/// A repair is an arrival (RFC 4588 4): what a sending stream answers is to its receiving stream what the datagram is
+/// that it wraps, the arrival of that one's number with its content (`arrives`); and `receive` says and does with it
+/// what it does with the datagram (`received`).
 pub fn repairs_law()
-    ensures { (receiver : Receiving) (sender : Sending) (datagram bytes : List ℕ) → TakesRepairs receiver sender →
-        IsHeaded datagram → repair sender datagram ≡ Ok bytes →
+    ensures arrives { (receiver : Receiving) (sender : Sending) (datagram bytes : List ℕ) →
+        TakesRepairs receiver sender → IsHeaded datagram → repair sender datagram ≡ Ok bytes →
         event_in receiver bytes ≡ event_in receiver datagram }
+    ensures received { (end : EndState) (stream : ℕ) (sender : Sending) (datagram bytes : List ℕ) →
+        let receiver = receiver_at end stream in
+        IsFound end stream receiver → TakesRepairs receiver sender → IsHeaded datagram →
+        repair sender datagram ≡ Ok bytes →
+        (verdict_of end bytes ≡ verdict_of end datagram) × (after_datagram end bytes ≡ after_datagram end datagram) }
 {}
 
 /// Redundancy is transparent: whatever datagrams of a list of samples arrive, and in whatever order, a

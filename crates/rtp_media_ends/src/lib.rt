@@ -18,7 +18,9 @@ pub use payload_core_base::PacketError;
 pub use rtp_media_exchange::{
     AgreedSection, Bandwidth, Codec, CodecConfig, CodecSpec, EndError, Exchange, ExchangeError,
     FormatParams, MediaKind, PayloadParams, RoundError, SdpError, SectionSpec, Session,
-    SessionAttribute, flow,
+    SessionAttribute, are_sound, flow,
 };
 pub use rtp_media_stream_table::{OpenStream, Polls, ReceiveError, Received, StreamTable};
-pub use rtp_media_streams::{Datagram, MAX_HELD, MIN_HELD, PollFault, SampleError, Unit, may_hold};
+pub use rtp_media_streams::{
+    Datagram, MAX_HELD, MIN_HELD, PollFault, RepairError, SampleError, Unit, may_hold,
+};

@@ -19,11 +19,11 @@ ghost use Rattle.rtp_wire.specs.Maps.{empty_map};
 use crate::errors::OpenError;
 use crate::openings::{receiver_row, sender_row};
 use crate::params::{Distances, StreamParams};
-use crate::rows::{row_format_of, types_of};
+use crate::rows::row_format_of;
 use h26x_payload::codec_law;
 use rtp_media_exchange::{Exchange, PayloadParams};
 use rtp_media_stream_table::StreamTable;
-use rtp_media_streams::{ReceivingStream, SendingStream};
+use rtp_media_streams::{PayloadTypes, ReceivingStream, SendingStream};
 use rtp_wire::{ExtensionMap, Mid, Pt, Ssrc};
 use std::alloc::{AllocError, Global};
 
@@ -54,9 +54,9 @@ pub fn new_sender(
         → refusal_of_open_sender (end_of exchange.now streams.now) mid ssrc pt ≡ Some e) }
 {
     codec_law();
-    let row = sender_row(exchange, streams, mid, ssrc, pt)?;
+    let (row, types) = sender_row(exchange, streams, mid, ssrc, pt)?;
     let exts = exts_of(alloc, exchange, mid)?;
-    Ok(sender_of(alloc, ssrc, exts, &row, params)?)
+    Ok(sender_of(alloc, ssrc, types, exts, &row, params)?)
 }
 
 /// The receiving stream of this SSRC that an end of these exchanges and streams opens for the agreed row of a payload
@@ -86,9 +86,9 @@ pub fn new_receiver(
     ensures refused { IfErr result (λ e. e ≢ OpenError.Memory
         → refusal_of_open_receiver (end_of exchange.now streams.now) mid ssrc pt ≡ Some e) }
 {
-    let row = receiver_row(exchange, streams, mid, ssrc, pt)?;
+    let (row, types) = receiver_row(exchange, streams, mid, ssrc, pt)?;
     let exts = exts_of(alloc, exchange, mid)?;
-    let (types, format) = (types_of(&row), row_format_of(&row));
+    let format = row_format_of(&row);
     Ok(ReceivingStream::new(alloc, ssrc, types, exts, format, hold_back, held))
 }
 
@@ -102,22 +102,25 @@ fn exts_of(alloc: Global, exchange: &Exchange, mid: Mid) -> Result<ExtensionMap,
     }
 }
 
-/// A new sending stream of a row, under this map of header extensions.
+/// A new sending stream of a row, under these types of it and this map of header extensions.
 fn sender_of(
     alloc: Global,
     ssrc: Ssrc,
+    types: PayloadTypes,
     exts: ExtensionMap,
     row: &PayloadParams,
     params: &StreamParams,
 ) -> Result<SendingStream, AllocError>
     requires sound { IsSound row.now.red params.now }
     requires carried { is_carried row.now ≡ true }
-    ensures { IfOk result (λ s. s ≡ row_sender ssrc row.now exts params.now) }
+    requires types { types.pt ≡ row.now.pt }
+    requires repairs { IfSome types.repair (λ key. key.pt < 128) }
+    ensures { IfOk result (λ s. s ≡ row_sender ssrc types row.now exts params.now) }
 {
     let stream = SendingStream::new(
         alloc,
         ssrc,
-        types_of(row),
+        types,
         exts,
         row_format_of(row),
         params.picture_id,

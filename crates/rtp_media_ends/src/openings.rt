@@ -1,8 +1,10 @@
 //! Why no stream can be opened.
 
-ghost use Rattle.std.specs.Prelude.{◌≡◌, Some, None, true, false, OnOk, IfOk, IfErr};
+ghost use Rattle.std.specs.Prelude.{◌≡◌, ◌<◌, Some, None, true, false, OnOk, IfOk, IfErr, IfSome};
 ghost use Rattle.std.specs.List.{list_any};
-ghost use Rattle.rtp_media_exchange.specs.Agreement.{agreed_row_of, row_in, section_of};
+ghost use Rattle.rtp_media_exchange.specs.Agreement.{agreed_row_of, own_repairs_of, remote_repairs_of, row_in};
+ghost use Rattle.rtp_media_exchange.specs.Agreement.{section_of};
+ghost use Rattle.rtp_media_ends.specs.Repairs.{IsKeyBeside};
 ghost use Rattle.rtp_media_ends.specs.Ends.{carried_row, end_of, is_carried, refusal_by};
 ghost use Rattle.rtp_media_stream_table.specs.Streams.{receives_as};
 ghost use Rattle.rtp_media_ends.specs.Ends.{refusal_of_open_receiver, refusal_of_open_sender, refusal_of_row};
@@ -13,9 +15,10 @@ use crate::errors::OpenError;
 use crate::rows::{has_payload, is_carried, types_of};
 use rtp_media_exchange::{AgreedSection, Exchange, PayloadParams};
 use rtp_media_stream_table::StreamTable;
+use rtp_media_streams::PayloadTypes;
 use rtp_wire::{Mid, Pt, Ssrc};
 
-/// The row that a new sending stream sends, or why there is none.
+/// The row that a new sending stream sends, and its types, or why there is none.
 #[tactic(auto, unfolding(crate::specs::Ends::refusal_of_open_sender))]
 pub(crate) fn sender_row(
     exchange: &Exchange,
@@ -23,29 +26,33 @@ pub(crate) fn sender_row(
     mid: Mid,
     ssrc: Ssrc,
     pt: Pt,
-) -> Result<PayloadParams, OpenError>
-    ensures row { IfOk result (λ r. agreed_row_of exchange.now.agreed mid pt ≡ Some r) }
-    ensures carried { IfOk result (λ r. is_carried r ≡ true) }
+) -> Result<(PayloadParams, PayloadTypes), OpenError>
+    ensures row { IfOk result (λ r. agreed_row_of exchange.now.agreed mid pt ≡ Some r.0) }
+    ensures carried { IfOk result (λ r. is_carried r.0 ≡ true) }
+    ensures types { IfOk result (λ r. r.1 ≡ types_of r.0 ssrc (own_repairs_of exchange.now.agreed mid)) }
+    ensures beside { IfOk result (λ r. IsKeyBeside ssrc r.1.repair) }
+    ensures repairs { IfOk result (λ r. IfSome r.1.repair (λ key. key.pt < 128)) }
     ensures opens { OnOk result (refusal_of_open_sender (end_of exchange.now streams.now) mid ssrc pt ≡ None) }
-    ensures apart { IfOk result (λ r. list_any (sends_as ssrc (types_of r)) streams.now ≡ false) }
+    ensures apart { IfOk result (λ r. list_any (sends_as ssrc r.1) streams.now ≡ false) }
     ensures refused { IfErr result (λ e. refusal_of_open_sender (end_of exchange.now streams.now) mid ssrc pt
         ≡ Some e) }
 {
     let section = section_named(exchange, mid)?;
     let row = carried_row(section, pt)?;
+    let types = types_of(&row, ssrc, section.own_repair_of(ssrc));
     let refusal = opening_refusal(
         exchange.agrees_with(&row),
         section.is_sending(),
         section.names_own(ssrc),
-        streams.could_send(ssrc, &types_of(&row)),
+        streams.could_send(ssrc, &types),
     );
     match refusal {
-        None => Ok(row),
+        None => Ok((row, types)),
         Some(refusal) => Err(refusal),
     }
 }
 
-/// The row that a new receiving stream takes, or why there is none.
+/// The row that a new receiving stream takes, and its types, or why there is none.
 #[tactic(auto, unfolding(crate::specs::Ends::refusal_of_open_receiver))]
 pub(crate) fn receiver_row(
     exchange: &Exchange,
@@ -53,24 +60,26 @@ pub(crate) fn receiver_row(
     mid: Mid,
     ssrc: Ssrc,
     pt: Pt,
-) -> Result<PayloadParams, OpenError>
-    ensures row { IfOk result (λ r. agreed_row_of exchange.now.agreed mid pt ≡ Some r) }
-    ensures carried { IfOk result (λ r. is_carried r ≡ true) }
+) -> Result<(PayloadParams, PayloadTypes), OpenError>
+    ensures row { IfOk result (λ r. agreed_row_of exchange.now.agreed mid pt ≡ Some r.0) }
+    ensures carried { IfOk result (λ r. is_carried r.0 ≡ true) }
+    ensures types { IfOk result (λ r. r.1 ≡ types_of r.0 ssrc (remote_repairs_of exchange.now.agreed mid)) }
     ensures opens { OnOk result (refusal_of_open_receiver (end_of exchange.now streams.now) mid ssrc pt ≡ None) }
-    ensures apart { IfOk result (λ r. list_any (receives_as ssrc (types_of r)) streams.now ≡ false) }
+    ensures apart { IfOk result (λ r. list_any (receives_as ssrc r.1) streams.now ≡ false) }
     ensures refused { IfErr result (λ e. refusal_of_open_receiver (end_of exchange.now streams.now) mid ssrc pt
         ≡ Some e) }
 {
     let section = section_named(exchange, mid)?;
     let row = carried_row(section, pt)?;
+    let types = types_of(&row, ssrc, section.remote_repair_of(ssrc));
     let refusal = opening_refusal(
         exchange.agrees_with(&row),
         section.is_receiving(),
         section.names_remote(ssrc),
-        streams.could_receive(ssrc, &types_of(&row)),
+        streams.could_receive(ssrc, &types),
     );
     match refusal {
-        None => Ok(row),
+        None => Ok((row, types)),
         Some(refusal) => Err(refusal),
     }
 }

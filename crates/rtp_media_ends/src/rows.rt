@@ -1,22 +1,41 @@
 //! What a row says of a stream.
 
-ghost use Rattle.std.specs.Prelude.{◌≡◌, ◌&&◌, nat_le};
+ghost use Rattle.std.specs.Prelude.{◌≡◌, ◌<◌, ◌&&◌, nat_le, IfSome};
 ghost use Rattle.rtp_media_streams.specs.Codings.{has_format};
-ghost use Rattle.rtp_media_ends.specs.Ends.{is_carried, is_red_of, row_format_of, types_of};
+ghost use Rattle.rtp_media_ends.specs.Ends.{is_carried, is_red_of, key_of, row_format_of, types_by};
+ghost use Rattle.rtp_media_ends.specs.Repairs.{IsKeyBeside};
 
 use h26x_payload::has_format;
 use rtp_media_exchange::PayloadParams;
-use rtp_media_streams::{PayloadTypes, RowFormat};
-use rtp_wire::Pt;
+use rtp_media_streams::{PayloadTypes, RepairKey, RowFormat};
+use rtp_wire::{Pt, Ssrc};
 
-/// The payload types of a row.
-pub(crate) fn types_of(row: &PayloadParams) -> PayloadTypes
-    ensures { result ≡ types_of row.now }
+/// The SSRC and type of a stream's repairs (RFC 4588 8.1 and 8.3): the SSRC that repairs the stream's, where it is
+/// another one, and the row's type for retransmissions, where it has 7 bits.
+fn key_of(ssrc: Ssrc, pt: Option<Pt>, repair: Option<Ssrc>) -> Option<RepairKey>
+    ensures value { result ≡ key_of ssrc pt repair }
+    ensures beside { IsKeyBeside ssrc result }
+    ensures repairs { IfSome result (λ key. key.pt < 128) }
+{
+    let (Some(pt), Some(repair)) = (pt, repair) else {
+        return None;
+    };
+    if pt.get() <= 127 && repair.get() != ssrc.get() {
+        return Some(RepairKey { ssrc: repair, pt });
+    }
+    None
+}
+
+/// The payload types of a row's stream under an SSRC, whose sender repairs it under another one.
+pub(crate) fn types_of(row: &PayloadParams, ssrc: Ssrc, repair: Option<Ssrc>) -> PayloadTypes
+    ensures value { result ≡ types_by row.now ssrc repair }
+    ensures beside { IsKeyBeside ssrc result.repair }
+    ensures repairs { IfSome result.repair (λ key. key.pt < 128) }
 {
     PayloadTypes {
         pt: row.pt(),
         red: row.red(),
-        repair: None,
+        repair: key_of(ssrc, row.resend(), repair),
     }
 }
 

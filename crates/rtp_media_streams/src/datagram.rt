@@ -12,7 +12,7 @@ pub struct Datagram {
     bytes: Vec<u8>,
 }
 
-/// Written out, so that who lets one go needs nothing of what is inside.
+/// Written by hand so that crates that drop this type need no proof about its fields.
 impl Drop for Datagram {
     fn drop(self) {
         let Datagram { bytes: _bytes } = self;

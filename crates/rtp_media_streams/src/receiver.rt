@@ -57,7 +57,7 @@ pub struct ReceivingStream {
     buffer: DepacketizingBuffer<CodecDepacketizer<NotBoxed>>,
 }
 
-/// Written out, so that who lets one go needs nothing of what is inside.
+/// Written by hand so that crates that drop this type need no proof about its fields.
 impl Drop for ReceivingStream {
     fn drop(self) {
         let ReceivingStream {

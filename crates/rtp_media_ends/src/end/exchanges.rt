@@ -1,6 +1,6 @@
 //! Exchanges of texts between two ends.
 
-ghost use Rattle.std.specs.Prelude.{◌≡◌, ◌≢◌, None, Some, is_some, string_bytes, IfOk, IfErr, OnOk, OnErr};
+ghost use Rattle.std.specs.Prelude.{◌≡◌, ◌≢◌, None, Some, is_some, string_bytes, IfOk, IfErr, IsTrue, OnOk, OnErr};
 ghost use Rattle.sdp_formats_data.specs.PrintedSession.{sdp_text};
 ghost use Rattle.rtp_media_exchange.specs.Exchanges.{with_offer};
 ghost use Rattle.rtp_media_exchange.specs.Offers.{Accepts, Answers, offer_of};
@@ -8,12 +8,15 @@ ghost use Rattle.rtp_media_exchange.specs.Refusals.{MayAccept, MayAnswer, Refuse
 ghost use Rattle.rtp_media_exchange.specs.Refusals.{RefusesNew, refusal_of_new, refusal_of_offer};
 ghost use Rattle.rtp_media_exchange.specs.Writable.{IsWritableSession};
 ghost use Rattle.rtp_media_exchange.specs.Says.{AgreesOnText};
+ghost use Rattle.rtp_media_exchange.specs.Wishes.{SaysOffer};
+ghost use Rattle.rtp_media_exchange.specs.Sections.{are_sound};
 ghost use Rattle.rtp_media_ends.specs.Ends.{new_end, with_exchange};
 ghost use Rattle.rtp_media_ends.specs.Connections.{Connects, HaveExchanged, HaveOneAgreement, IsRefused};
 
 use super::End;
 use rtp_media_exchange::{
-    CodecConfig, EndError, Exchange, ExchangeError, SectionSpec, Session, one_agreement_law,
+    CodecConfig, EndError, Exchange, ExchangeError, SectionSpec, Session, mutual_law,
+    one_agreement_law,
 };
 use rtp_media_stream_table::StreamTable;
 use rtp_wire::ExtensionMap;
@@ -46,10 +49,15 @@ impl End {
     /// The text of an offer of these sections (RFC 3264 5); it is then pending. A later offer begins with the sections
     /// that were agreed last.
     ///
+    /// # Conditions
+    /// The repairs of each section fit its SSRCs: [`SectionSpec::is_sound`].
+    ///
     /// # Errors
     /// The first that holds of `OutOfTurn`, `NotCorresponding`, `NoCommonRow` and `NotWritable`; or
     /// `Memory`. The end is then unchanged.
     pub fn offer(&mut self, sections: Vec<SectionSpec>) -> Result<String, ExchangeError>
+        requires sound { IsTrue (are_sound sections.items) }
+        ensures says { IfOk result (λ text. SaysOffer (string_bytes text) sections.items) }
         ensures text { IfOk result (λ text. string_bytes text ≡ sdp_text (offer_of self.old.exchange sections.items)) }
         ensures accepted { OnOk result (refusal_of_offer self.old.exchange sections.items ≡ None) }
         ensures after { OnOk result (self.new ≡ with_exchange self.old
@@ -64,6 +72,9 @@ impl End {
     /// The text of the answer to an offer, of these sections (RFC 3264 6); it is then agreed. Streams that are open
     /// stay as they are.
     ///
+    /// # Conditions
+    /// The repairs of each section fit its SSRCs: [`SectionSpec::is_sound`].
+    ///
     /// # Errors
     /// The first that holds of `Unreadable`, `OutOfTurn`, `NotMedia`, `NotCorresponding`, `Round`, `NoCommonRow` and
     /// `NotWritable`; or `Memory`. The end is then unchanged.
@@ -72,6 +83,7 @@ impl End {
         text: &str,
         sections: Vec<SectionSpec>,
     ) -> Result<String, ExchangeError>
+        requires sound { IsTrue (are_sound sections.items) }
         ensures text { IfOk result (λ answer. Answers self.old.exchange text.now sections.items (string_bytes answer)
             self.new.exchange) }
         ensures agreed { IfOk result (λ answer. AgreesOnText (string_bytes answer) self.new.exchange.agreed) }
@@ -112,7 +124,10 @@ impl End {
 }
 
 /// Has `a` offer, `b` answer and `a` accept, and answers both texts. Both ends have then agreed on the
-/// rows and the map of header extensions of each section of the answer.
+/// rows and the map of header extensions of each section of the answer, and each takes the repairs that the other names.
+///
+/// # Conditions
+/// The repairs of each section fit its SSRCs: [`SectionSpec::is_sound`].
 ///
 /// # Errors
 /// What the first refused call answers. Where `b`'s answer is refused, `a`'s offer stays pending;
@@ -123,6 +138,8 @@ pub fn connect(
     sections_a: Vec<SectionSpec>,
     sections_b: Vec<SectionSpec>,
 ) -> Result<(String, String), ExchangeError>
+    requires sound_a { IsTrue (are_sound sections_a.items) }
+    requires sound_b { IsTrue (are_sound sections_b.items) }
     ensures texts { IfOk result (λ texts. Connects a.old b.old sections_a.items sections_b.items
         (string_bytes texts.0) (string_bytes texts.1) a.new b.new) }
     ensures exchanged { IfOk result (λ texts. HaveExchanged (string_bytes texts.1) a.new b.new) }
@@ -130,6 +147,7 @@ pub fn connect(
     ensures refused { IfErr result (λ e. IsRefused a.old b.old sections_a.items sections_b.items e a.new b.new) }
 {
     one_agreement_law();
+    mutual_law();
     let offer = a.offer(sections_a)?;
     let answer = match b.answer(offer.as_str(), sections_b) {
         Ok(answer) => answer,

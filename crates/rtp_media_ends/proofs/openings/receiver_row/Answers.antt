@@ -1,7 +1,7 @@
 use Rattle.std.proofs.Common.{◌≡◌, ◌∙◌, ap, sym, arith}
 use Rattle.std.proofs.lemmas.Grind.{common_steps}
 use Rattle.std.specs.List.{list_any}
-use Rattle.rtp_media_ends.specs.Ends.{end_of, refusal_of_open_receiver}
+use Rattle.rtp_media_ends.specs.Ends.{end_of, refusal_of_open_receiver, types_by}
 use Rattle.rtp_media_stream_table.specs.Streams.{receives_as}
 use Rattle.rtp_media_ends.proofs.Refusals.{receiver-refusal}
 use Rattle.rtp_media_ends.proofs.openings.receiver_row.Goals as goal
@@ -15,7 +15,8 @@ returns-in-None-clause-opens c =
     c.args.mid c.args.ssrc c.args.pt _ c.in_ok-row.row _ _ _ _ c.in_ok-section.ensures.found c.in_ok-row.ensures.found
     c.agrees_with.ensures c.is_receiving.ensures c.names_remote.ensures
     (c.could_receive.ensures
-    ∙ ap (λ types. list_any (receives_as c.args.ssrc types) c.args.streams.now) c.types_of.ensures)))
+    ∙ ap (λ types. list_any (receives_as c.args.ssrc types) c.args.streams.now) (c.types_of-types.ensures.value
+    ∙ ap (types_by c.in_ok-row.row c.args.ssrc) c.remote_repair_of.ensures))))
     ∙ sym c.opening_refusal-refusal.ensures in
     grind (arith, common_steps, e)
 
@@ -28,6 +29,7 @@ returns-in-Some-clause-refused c =
     c.args.mid c.args.ssrc c.args.pt _ c.in_ok-row.row _ _ _ _ c.in_ok-section.ensures.found c.in_ok-row.ensures.found
     c.agrees_with.ensures c.is_receiving.ensures c.names_remote.ensures
     (c.could_receive.ensures
-    ∙ ap (λ types. list_any (receives_as c.args.ssrc types) c.args.streams.now) c.types_of.ensures)))
+    ∙ ap (λ types. list_any (receives_as c.args.ssrc types) c.args.streams.now) (c.types_of-types.ensures.value
+    ∙ ap (types_by c.in_ok-row.row c.args.ssrc) c.remote_repair_of.ensures))))
     ∙ sym c.opening_refusal-refusal.ensures in
     grind (arith, common_steps, e)

@@ -1,5 +1,9 @@
 use Rattle.std.proofs.Common.{◌≡◌, ◌∙◌, sym, subst, arith}
+use Rattle.std.proofs.Common.{ℕ, List, ap}
 use Rattle.rtp_media_exchange.specs.Offers.{Answers}
+use Rattle.rtp_media_exchange.specs.Says.{AgreesOnText}
+use Rattle.rtp_media_exchange.specs.Wishes.{SaysOffer}
+use Rattle.rtp_media_ends.specs.Ends.{EndState}
 use Rattle.rtp_media_ends.specs.Connections.{AtAnswer, AtAccept, offer_text}
 use Rattle.std.proofs.lemmas.Grind.{common_steps}
 use Rattle.rtp_media_ends.proofs.end.exchanges.connect.Goals as goal
@@ -64,7 +68,29 @@ pub returns-in-Ok-accept-clause-texts : goal.returns-in-Ok-accept-clause-texts
 returns-in-Ok-accept-clause-texts c = grind (arith, common_steps)
 
 pub returns-in-Ok-accept-clause-exchanged : goal.returns-in-Ok-accept-clause-exchanged
-returns-in-Ok-accept-clause-exchanged c = grind (arith, common_steps)
+returns-in-Ok-accept-clause-exchanged c =
+    let offer : List ℕ = c.as_str.result.now in
+    let answer : List ℕ = c.as_str-2.result.now in
+    let says : SaysOffer offer c.args.sections_a.items =
+    subst (λ (text : List ℕ). SaysOffer text c.args.sections_a.items) (sym c.as_str.ensures.value)
+    c.in_ok-offer.ensures.says in
+    let answers : Answers c.args.b.now.exchange offer c.args.sections_b.items answer c.answer.new.self.exchange =
+    subst (λ (text : List ℕ). Answers c.args.b.now.exchange offer c.args.sections_b.items text
+    c.answer.new.self.exchange) (sym c.as_str-2.ensures.value) c.in-Ok.ensures.text in
+    let pairs = c.mutual_law.ensures.repairs offer answer c.args.sections_a.items c.args.sections_b.items
+    c.offer.new.self.exchange c.args.b.now.exchange c.accept.new.self.exchange c.answer.new.self.exchange (record {
+      offers = says;
+      pending = ap (λ (e : EndState). e.exchange.pending) c.in_ok-offer.ensures.after;
+      answers = answers;
+      accepts = c.in-Ok-accept.ensures.after;
+    }) in
+    record {
+      first = subst (λ (text : List ℕ). AgreesOnText text c.accept.new.self.exchange.agreed) c.as_str-2.ensures.value
+          c.in-Ok-accept.ensures.agreed;
+      second = c.in-Ok.ensures.agreed;
+      repairs_to = λ mid. (pairs mid).0;
+      repairs_from = λ mid. (pairs mid).1;
+    }
 
 pub returns-in-Ok-accept-clause-agree : goal.returns-in-Ok-accept-clause-agree
 returns-in-Ok-accept-clause-agree c = grind (arith, common_steps)
