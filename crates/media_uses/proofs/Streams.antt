@@ -1,5 +1,5 @@
 -- The streams of an exchange of a codec whose packets are pieces of samples, and samples that they take.
-use Rattle.std.proofs.Common.{◌≡◌, ℕ, ◌<◌, ◌≤◌, zero, suc, refl, sym, ◌∙◌, ap, subst, arith, Bool, true}
+use Rattle.std.proofs.Common.{◌≡◌, ℕ, ◌<◌, ◌≤◌, ◌^◌, zero, suc, refl, sym, ◌∙◌, ap, subst, arith, Bool, true}
 use Rattle.std.proofs.Common.{List, [], ◌∷◌, length, Option, Some, None}
 use Rattle.std.specs.Prelude.{All, IfSome}
 use Rattle.payload_core_base.specs.declared.codec.Codec.{Codec}
@@ -16,10 +16,12 @@ use Rattle.rtp_media_streams.specs.declared.row_format.RowFormat.{RowFormat}
 use Rattle.rtp_media_streams.specs.declared.types.PayloadTypes.{PayloadTypes}
 use Rattle.rtp_wire.specs.Values.{Numbering}
 use Rattle.rtp_media_sections.specs.Agreement.{agreed_row_of}
-use Rattle.rtp_media_ends.specs.Ends.{EndState, agreed_format, agreed_red, agreed_types, new_sender}
+use Rattle.rtp_media_ends.specs.Ends.{EndState, agreed_format, agreed_red, new_sender, sender_types}
 use Rattle.rtp_media_ends.specs.Ends.{row_format_in}
 use Rattle.rtp_media_ends.specs.Ends.{stream_map, with_distances}
-use Rattle.rtp_media_ends.specs.FullArrival.{AreSound}
+use Rattle.rtp_media_ends.specs.FullArrival.{AreSound, IsSender}
+use Rattle.rtp_media_ends.specs.Repairs.{IsKeyBeside}
+use Rattle.rtp_media_streams.specs.declared.types.RepairKey.{RepairKey}
 use Rattle.rtp_media_ends.specs.OpensAt.{SendsAt}
 use Rattle.rtp_media_ends.specs.declared.params.StreamParams.{StreamParams}
 use Rattle.rtp_media_play.proofs.Exchanged.{agreed-is}
@@ -30,13 +32,30 @@ row-kept : (s : Sending) (red : Option ℕ) (d : Option (List ℕ)) → (with_di
 row-kept s red None = refl
 row-kept s red (Some ds) = refl
 
+low : (ssrc : ℕ) (o : Option RepairKey) → IsKeyBeside ssrc o → IfSome o (λ key. key.ssrc < 2 ^ 32)
+low ssrc None h = tt
+low ssrc (Some key) h = h.2
+
+-- the SSRC of a stream's repairs fits a header
+pub key-low : (e : EndState) (mid : List ℕ) (ssrc pt : ℕ) (p : StreamParams) → IsSender (new_sender e mid ssrc pt p)
+    → IfSome (sender_types e mid ssrc pt).repair (λ key. key.ssrc < 2 ^ 32)
+key-low e mid ssrc pt p s = go p.red s where
+  opened : Sending
+  opened = opened_sender ssrc (sender_types e mid ssrc pt) (stream_map e mid) (agreed_format e mid pt) p.picture_id
+      p.for_browsers p.first p.mtu p.limit
+
+  go : (d : Option (List ℕ)) → IsSender (with_distances opened (agreed_red e mid pt) d)
+      → IfSome (sender_types e mid ssrc pt).repair (λ key. key.ssrc < 2 ^ 32)
+  go None s = low ssrc (sender_types e mid ssrc pt).repair s.beside
+  go (Some ds) s = low ssrc (sender_types e mid ssrc pt).repair s.beside
+
 -- a stream of an agreed row of such a codec
 pub sends-pieces : (e : EndState) (mid : List ℕ) (ssrc pt : ℕ) (p : StreamParams)
     → IfSome (agreed_row_of e.exchange.agreed mid pt) SendsPieces → SendsAt e mid ssrc pt
     → sends_pieces (new_sender e mid ssrc pt p).row.codec ≡ true
 sends-pieces e mid ssrc pt p pieces at =
     ap (λ (row : RowFormat). sends_pieces row.codec)
-    (row-kept (opened_sender ssrc (agreed_types e mid pt) (stream_map e mid) (agreed_format e mid pt) p.picture_id
+    (row-kept (opened_sender ssrc (sender_types e mid ssrc pt) (stream_map e mid) (agreed_format e mid pt) p.picture_id
     p.for_browsers p.first p.mtu p.limit) (agreed_red e mid pt) p.red)
     ∙ ap (λ (o : Option Row). sends_pieces (row_format_in o).codec) (agreed-is e mid ssrc pt at)
     ∙ subst (λ (o : Option Row). IfSome o SendsPieces) (agreed-is e mid ssrc pt at) pieces

@@ -15,11 +15,11 @@ use Rattle.rtp_media_schedules.specs.Turns.{AllCame, Ask, IsGoodArrival, Turn, i
 use Rattle.rtp_media_streams.specs.Sending.{Sample, Sending, packet_limit, samples_of}
 use Rattle.rtp_media_ends.specs.FullArrival.{count_of, units_of}
 use Rattle.rtp_media_play.specs.Runs.{IsTameSchedule, sizes_at}
-use Rattle.rtp_media_play.specs.Schedules.{poll_answers, turns_of}
+use Rattle.rtp_media_play.specs.Schedules.{is_repaired, poll_answers, source_of, turns_of}
 use Rattle.rtp_media_play.specs.declared.schedule.Event.{Event}
 use Rattle.rtp_media_play.specs.declared.schedule.Event.TheVariants.{Arrive, Poll}
 use Rattle.rtp_media_play.specs.declared.schedule.Played.{Played}
-use Rattle.rtp_media_play.specs.declared.schedule.Played.TheVariants.{Received, Polled}
+use Rattle.rtp_media_play.specs.declared.schedule.Played.TheVariants.{NotRepaired, Received, Polled}
 use Rattle.rtp_media_play.specs.OpusHops.{bytes_out}
 use Rattle.media_uses.specs.Call.{sends_pieces, opened_to_hold, IsShortSample}
 use Rattle.media_uses.proofs.Whole.{AreShort, plain-format, sent-whole, sent_whole}
@@ -104,14 +104,16 @@ tame-three s (x ∷ y ∷ []) three is next room short answers silent = absurd (
 tame-three s (x ∷ y ∷ z ∷ []) three is next room short answers silent =
     let here : AreShort (packet_limit s) (samples_of s (x ∷ y ∷ z ∷ [])) =
     still-short s (x ∷ y ∷ z ∷ []) room short in
+    let made : ℕ → Bool = is_repaired (source_of s (x ∷ y ∷ z ∷ [])) in
     let counted : IsTame 0 (count_of s (x ∷ y ∷ z ∷ [])) opened_to_hold (first_size (sizes_at s (x ∷ y ∷ z ∷ []))) [] 0
-    (sizes_at s (x ∷ y ∷ z ∷ [])) (turns_of 0 (count_of s (x ∷ y ∷ z ∷ [])) schedule) =
-    subst₂ (λ (n : ℕ) (zs : List ℕ). IsTame 0 n opened_to_hold (first_size zs) [] 0 zs (turns_of 0 n schedule))
+    (sizes_at s (x ∷ y ∷ z ∷ [])) (turns_of 0 (count_of s (x ∷ y ∷ z ∷ [])) made schedule) =
+    subst₂ (λ (n : ℕ) (zs : List ℕ). IsTame 0 n opened_to_hold (first_size zs) [] 0 zs (turns_of 0 n made schedule))
     (sym (count-is s x y z is here)) (sym (sizes-are s x y z is here)) tame in
     record {
       foreign = tt;
-      order = subst (λ (n : ℕ). IsTame n (count_of s (x ∷ y ∷ z ∷ [])) opened_to_hold (first_size (sizes_at s (x ∷ y ∷ z ∷ [])))
-          [] n (sizes_at s (x ∷ y ∷ z ∷ [])) (turns_of n (count_of s (x ∷ y ∷ z ∷ [])) schedule)) (sym next) counted;
+      order = subst (λ (n : ℕ). IsTame n (count_of s (x ∷ y ∷ z ∷ [])) opened_to_hold
+          (first_size (sizes_at s (x ∷ y ∷ z ∷ []))) [] n (sizes_at s (x ∷ y ∷ z ∷ []))
+          (turns_of n (count_of s (x ∷ y ∷ z ∷ [])) made schedule)) (sym next) counted;
       before = Arrive 0 ∷ Poll ∷ Arrive 2 ∷ Poll ∷ Arrive 1 ∷ Poll ∷ Poll ∷ [];
       last = refl;
       silent = silent;
@@ -156,6 +158,7 @@ bytes-out s samples rs is room short exact =
 -- an answer in front
 behind : (p : Played) (ps : List Played) → EndsSilent (poll_answers ps) → EndsSilent (poll_answers (p ∷ ps))
 behind (Received verdict) ps silent = silent
+behind (NotRepaired refusal) ps silent = silent
 behind (Polled answer) ps silent = more (poll_answers ps) silent where
   more : (os : List Answer) → EndsSilent os → EndsSilent (answer ∷ os)
   more [] none = absurd none

@@ -1,6 +1,7 @@
 //! An end of a row, and what it wants to agree on.
 
-ghost use Rattle.std.specs.Prelude.{◌≡◌, IfSome};
+ghost use Rattle.std.specs.Prelude.{◌≡◌, IfSome, true};
+ghost use Rattle.rtp_media_sections.specs.Sections.{are_sound};
 
 use rtp_media_play::{
     CodecConfig, Distances, End, MediaKind, PayloadParams, SectionSpec, Session, StreamParams,
@@ -17,12 +18,15 @@ pub(crate) fn end(alloc: Global, row: PayloadParams, session: u64) -> Option<End
 }
 
 /// One section of audio that flows both ways, of this SSRC.
-pub(crate) fn sections(alloc: Global, ssrc: Ssrc) -> Option<Vec<SectionSpec>> {
+pub(crate) fn sections(alloc: Global, ssrc: Ssrc) -> Option<Vec<SectionSpec>>
+    ensures { IfSome result (λ sections. are_sound sections.items ≡ true) }
+{
     let section = SectionSpec {
         mid: Mid::from("0"),
         kind: MediaKind::Audio,
         dir: Direction::SendRecv,
         ssrcs: vec![in alloc; ssrc].ok()?,
+        repairs: Vec::new(alloc),
     };
     vec![in alloc; section].ok()
 }

@@ -2,6 +2,7 @@
 
 use rtp_media_exchange::{
     CodecConfig, EndError, Exchange, ExchangeError, MediaKind, SdpError, SectionSpec, Session,
+    are_sound,
 };
 use rtp_wire::{Direction, ExtensionMap, Frequency, Mid, Pt, SessionId, Ssrc};
 use sdp_formats_rows::{Codec, FormatParams};
@@ -66,6 +67,7 @@ fn section(
         kind,
         dir: Direction::SendRecv,
         ssrcs: vec![in alloc; Ssrc::from(ssrc)]?,
+        repairs: Vec::new(alloc),
     })
 }
 
@@ -79,7 +81,11 @@ fn two_sections(alloc: Global) -> Result<Vec<SectionSpec>, AllocError> {
 /// A text that begins with another line.
 fn unreadable(alloc: Global) -> Option<bool> {
     let mut exchange = opus(alloc)?;
-    match exchange.answer("v=1\r\n", two_sections(alloc).ok()?) {
+    let sections = two_sections(alloc).ok()?;
+    if !are_sound(sections.as_slice()) {
+        return None;
+    }
+    match exchange.answer("v=1\r\n", sections) {
         Err(ExchangeError::Unreadable(SdpError::ParseError(_))) => Some(true),
         _ => Some(false),
     }

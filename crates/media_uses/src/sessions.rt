@@ -2,6 +2,7 @@
 
 use rtp_media_exchange::{
     Bandwidth, CodecConfig, EndError, Exchange, MediaKind, SectionSpec, Session, SessionAttribute,
+    are_sound,
 };
 use rtp_wire::{Direction, Extension, ExtensionMap, Mid, SessionId, Ssrc};
 use sdp_formats_data::{Listed, Text};
@@ -10,7 +11,11 @@ use std::alloc::{AllocError, Global};
 /// An offer says the lines of its session, each at its place.
 pub(crate) fn offers_say_the_lines_of_the_session(alloc: Global) -> Option<bool> {
     let mut exchange = exchange_with(alloc, SessionAttribute::IceLite).ok()?;
-    let offer = exchange.offer(sections(alloc).ok()?).ok()?;
+    let sections = sections(alloc).ok()?;
+    if !are_sound(sections.as_slice()) {
+        return None;
+    }
+    let offer = exchange.offer(sections).ok()?;
     let front =
         "v=0\r\no=str0m-0.25.0 1 2 IN IP4 0.0.0.0\r\ns=-\r\nb=AS:500\r\nt=0 0\r\na=group:BUNDLE 0\r\na=ice-lite\r\n";
     Some(offer.starts_with(front))
@@ -23,6 +28,7 @@ fn sections(alloc: Global) -> Result<Vec<SectionSpec>, AllocError> {
         kind: MediaKind::Audio,
         dir: Direction::SendRecv,
         ssrcs: vec![in alloc; Ssrc::from(44)]?,
+        repairs: Vec::new(alloc),
     };
     Ok(vec![in alloc; section]?)
 }

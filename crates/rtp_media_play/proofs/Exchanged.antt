@@ -1,6 +1,8 @@
 -- After an exchange and two openings, the new receiving stream hears the new sending one.
 use Rattle.std.proofs.Common.{◌≡◌, ℕ, ◌+◌, ◌<◌, ◌≤◌, ◌^◌, refl, sym, ◌∙◌, ap, ap₂, subst, Bool}
 use Rattle.std.proofs.Common.{List, [], ◌∷◌, length, map, Option, Some, None}
+use Rattle.std.specs.Prelude.{IfSome}
+use Rattle.rtp_media_sections.specs.Repairs.{repairing_of}
 use Rattle.std.specs.Prelude.{unwrap_or, is_some}
 use Rattle.h26x_payload.specs.Dispatch.{FirstIsReached, KeepCodecLawInForms}
 use Rattle.rtp_wire.specs.Maps.{empty_map}
@@ -13,16 +15,18 @@ use Rattle.rtp_media_schedules.specs.Samples.{whole_unit}
 use Rattle.rtp_media_streams.specs.Receiving.{Receiving, opened_receiver, with_stream}
 use Rattle.h26x_payload.specs.Codings.{forms_for}
 use Rattle.rtp_media_streams.specs.Rows.{coding_in, format_of, settings_in}
-use Rattle.rtp_media_streams.specs.Sending.{Sample, Sending, carried, datagrams_of, opened_sender, packet_limit}
+use Rattle.rtp_media_streams.specs.Sending.{Sample, Sending, carried, opened_sender, packet_limit}
 use Rattle.rtp_media_streams.specs.Sending.{samples_of}
 use Rattle.rtp_media_streams.specs.Sending.{timestamp}
 use Rattle.rtp_media_streams.specs.declared.row_format.RowFormat.{RowFormat}
 use Rattle.rtp_media_streams.specs.declared.types.PayloadTypes.{PayloadTypes}
 use Rattle.rtp_media_ends.proofs.OneAgreement.{same_maps, same_rows}
 use Rattle.rtp_media_ends.specs.Agreement.{agreed_map_of, agreed_row_of}
-use Rattle.rtp_media_ends.specs.Ends.{EndState, after_open_receiver, agreed_format, agreed_red, agreed_types}
+use Rattle.rtp_media_ends.specs.Ends.{EndState, after_open_receiver, agreed_format, agreed_red, receiver_types}
 use Rattle.rtp_media_ends.specs.Ends.{new_receiver, new_sender, red_in, row_format_in, stream_map}
-use Rattle.rtp_media_ends.specs.Ends.{receiver_at, types_in, with_distances}
+use Rattle.rtp_media_ends.specs.Ends.{receiver_at, sender_types, types_in, types_of, with_distances}
+use Rattle.rtp_media_ends.proofs.Beside.{key-beside}
+use Rattle.rtp_media_ends.specs.Agreement.{own_repairs_of}
 use Rattle.rtp_media_ends.specs.FullArrival.{HasReceiver, IsSender, coding_of, count_of}
 use Rattle.rtp_media_ends.specs.OpensAt.{SendsAt}
 use Rattle.rtp_media_ends.specs.Params as params
@@ -34,7 +38,7 @@ use Rattle.rtp_media_ends.proofs.Refusals.{row-agreed}
 use Rattle.rtp_media_play.specs.Headline.{SendsTo, answers_of, units}
 use Rattle.rtp_media_play.specs.Runs.{Hears, canonical_of}
 use Rattle.rtp_media_play.specs.Units.{arriving, limit_by, packet_limit_of, units_by}
-use Rattle.rtp_media_play.specs.Schedules.{own_events}
+use Rattle.rtp_media_play.specs.Schedules.{own_events, source_of}
 use Rattle.rtp_media_play.specs.declared.schedule.Event.{Event}
 use Rattle.rtp_media_play.proofs.Isolated.{isolated}
 use Rattle.rtp_media_play.proofs.UnitsAlone.{units-alone}
@@ -47,15 +51,22 @@ agreed-is e mid ssrc pt at =
 
 pub new-is-sender : FirstIsReached → (e : EndState) (mid : List ℕ) (ssrc pt : ℕ)
     (p : StreamParams) → SendsAt e mid ssrc pt → ssrc < 2 ^ 32
+    → IfSome (sender_types e mid ssrc pt).repair (λ key. key.ssrc < 2 ^ 32)
     → params.IsSound (agreed_red e mid pt) p → IsSender (new_sender e mid ssrc pt p)
-new-is-sender law e mid ssrc pt p at fits sound =
+new-is-sender law e mid ssrc pt p at fits key_fits sound =
     let row : Row = at.row in
     let is : agreed_row_of e.exchange.agreed mid pt ≡ Some row = agreed-is e mid ssrc pt at in
+    let types : PayloadTypes = types_of row ssrc (own_repairs_of e.exchange.agreed mid) in
+    let low : IfSome types.repair (λ key. key.ssrc < 2 ^ 32) =
+    subst (λ (o : Option Row). IfSome (types_in o ssrc (own_repairs_of e.exchange.agreed mid)).repair
+    (λ key. key.ssrc < 2 ^ 32)) is key_fits in
     subst (λ (o : Option Row). IsSender (with_distances
-    (opened_sender ssrc (types_in o) (stream_map e mid)
+    (opened_sender ssrc (types_in o ssrc (own_repairs_of e.exchange.agreed mid)) (stream_map e mid)
     (row_format_in o) p.picture_id p.for_browsers p.first p.mtu p.limit)
     (red_in o) p.red)) (sym is)
-    (opened-sound law ssrc row (stream_map e mid) p (carried-fits row at.carried) fits
+    (opened-sound law ssrc types row (stream_map e mid) p refl refl
+    (key-beside ssrc row.resend (repairing_of (own_repairs_of e.exchange.agreed mid) ssrc) low)
+    (carried-fits row at.carried) fits
     (subst (λ (o : Option Row). params.IsSound (red_in o) p) is sound))
 
 -- redundancy leaves the rest of a stream as it was
@@ -117,22 +128,30 @@ module _ (law : KeepCodecLawInForms) (first_law : FirstIsReached) (answer : List
   s = new_sender a mid ssrc pt p
 
   abbrev opened : Sending
-  opened = opened_sender ssrc (agreed_types a mid pt) (stream_map a mid) (agreed_format a mid pt) p.picture_id
+  opened = opened_sender ssrc (sender_types a mid ssrc pt) (stream_map a mid) (agreed_format a mid pt) p.picture_id
       p.for_browsers p.first p.mtu p.limit
 
   pub plain : IsPlain opened s (packet_limit_of p)
-  plain = plain-distances ssrc (agreed_types a mid pt) (stream_map a mid) (agreed_format a mid pt) p
+  plain = plain-distances ssrc (sender_types a mid ssrc pt) (stream_map a mid) (agreed_format a mid pt) p
       (agreed_red a mid pt) p.red
 
   pub sender : IsSender s
-  sender = new-is-sender first_law a mid ssrc pt p to.sends to.ssrc_fits to.sound_params
+  sender = new-is-sender first_law a mid ssrc pt p to.sends to.ssrc_fits to.repair_fits to.sound_params
+
+  -- the repairs that the sending end names are those that the receiving one takes
+  one_types : receiver_types b mid ssrc pt ≡ sender_types a mid ssrc pt
+  one_types =
+      ap₂ (λ (o : Option Row) (repairs : List (ℕ × ℕ)). types_in o ssrc repairs) (sym one_row)
+      (sym (to.exchanged.repairs_to mid))
 
   -- both streams have one SSRC, types, map and row
   alike : (holding : Holding) → new_receiver b mid ssrc pt holding
       ≡ opened_receiver s.ssrc s.types s.map s.row holding
   alike holding =
-      ap₂ (λ (o : Option Row) (m : Option Numbering). opened_receiver ssrc (types_in o) (unwrap_or m empty_map)
-      (row_format_in o) holding) (sym one_row) (sym one_map)
+      ap (λ (types : PayloadTypes). opened_receiver ssrc types (stream_map b mid) (agreed_format b mid pt) holding)
+      one_types
+      ∙ ap₂ (λ (o : Option Row) (m : Option Numbering). opened_receiver ssrc (sender_types a mid ssrc pt)
+      (unwrap_or m empty_map) (row_format_in o) holding) (sym one_row) (sym one_map)
       ∙ ap₂ (λ (n : ℕ) (types : PayloadTypes). opened_receiver n types (stream_map a mid) (agreed_format a mid pt)
       holding) (sym plain.ssrc) (sym plain.types)
       ∙ ap₂ (λ (m : Numbering) (row : RowFormat). opened_receiver s.ssrc s.types m row holding) (sym plain.map)
@@ -170,7 +189,7 @@ module _ (law : KeepCodecLawInForms) (first_law : FirstIsReached) (answer : List
 
   pub alone : (holding : Holding) (schedule : List Event) → answers_of a b mid ssrc pt p holding samples schedule
       ≡ heard (format_of (new_receiver b mid ssrc pt holding).row) (fresh holding)
-      (own_events (datagrams_of s samples) (new_receiver b mid ssrc pt holding) schedule)
+      (own_events (source_of s samples) (new_receiver b mid ssrc pt holding) schedule)
   alone holding schedule =
       let e : EndState = after_open_receiver b mid ssrc pt holding in
       let n : ℕ = length b.streams in
@@ -178,6 +197,6 @@ module _ (law : KeepCodecLawInForms) (first_law : FirstIsReached) (answer : List
       let has : HasReceiver e n r = has-receiver holding in
       let same : receiver_at e n ≡ with_stream r (receiver_at e n).stream =
       has.stream_is ∙ ap (with_stream r) (sym (ap (λ (x : Receiving). x.stream) has.stream_is)) in
-      isolated (datagrams_of s samples) n r schedule e (record { same = same; known = has.found })
-      ∙ ap (λ (t : Stream). heard (format_of r.row) t (own_events (datagrams_of s samples) r schedule))
+      isolated (source_of s samples) n r schedule e (record { same = same; known = has.found })
+      ∙ ap (λ (t : Stream). heard (format_of r.row) t (own_events (source_of s samples) r schedule))
       (ap (λ (x : Receiving). x.stream) has.stream_is)

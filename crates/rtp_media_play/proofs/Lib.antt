@@ -9,13 +9,16 @@ pub mod Exchanged
 pub mod Frames
 pub mod H26x
 pub mod Isolated
+pub mod LateRepairs
 pub mod Members
 pub mod Obus
 pub mod OneSample
 pub mod Passed
 pub mod Plays
 pub mod Pushes
+pub mod Repairs
 pub mod RepeatedTypes
+pub mod Repeats
 pub mod SecondHop
 pub mod SentOn
 pub mod Sets

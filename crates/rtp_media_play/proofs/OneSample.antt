@@ -1,5 +1,6 @@
 -- One sample of Opus over a stream: one datagram, a tame schedule, and one unit.
 use Rattle.std.proofs.Common.{◌≡◌, ℕ, zero, suc, ◌-◌, ◌<◌, ◌≤◌, refl, sym, ◌∙◌, ap, ap₂, subst, subst₂, arith}
+use Rattle.std.proofs.Common.{Bool}
 use Rattle.std.proofs.Common.{false, true, List, [], ◌∷◌, drop, length, map, Option, Some, None, inr}
 use Rattle.std.specs.List.{cons_option}
 use Rattle.std.specs.Prelude.{option_and_then, slice_get}
@@ -29,11 +30,11 @@ use Rattle.rtp_media_streams.specs.Rows.{format_of, settings_in}
 use Rattle.rtp_media_streams.specs.Sending.{Sample, Sending, carried, datagrams_of, opened_sender, packet_limit}
 use Rattle.rtp_media_streams.specs.Sending.{samples_of, timestamp}
 use Rattle.rtp_media_streams.specs.declared.row_format.RowFormat.{RowFormat}
-use Rattle.rtp_media_ends.specs.Ends.{agreed_types, new_receiver}
+use Rattle.rtp_media_ends.specs.Ends.{sender_types, new_receiver}
 use Rattle.rtp_media_ends.specs.FullArrival.{AreSound, count_of, sent_samples}
 use Rattle.rtp_media_ends.specs.OwnEvents.{event_in}
 use Rattle.rtp_media_play.specs.Runs.{sizes_at}
-use Rattle.rtp_media_play.specs.Schedules.{turns_of}
+use Rattle.rtp_media_play.specs.Schedules.{is_repaired, source_of, turns_of}
 use Rattle.rtp_media_play.specs.declared.schedule.Event.TheVariants.{Arrive, Poll}
 use Rattle.rtp_media_play.proofs.Exchanged.{IsPlain, alone, plain}
 use Rattle.rtp_media_play.specs.Hops as hops
@@ -129,7 +130,7 @@ module _ (law : KeepCodecLawInForms) (reached : FirstIsReached) (h : Hop) (x : S
   s = sender_over h
 
   abbrev opened : Sending
-  opened = opened_sender h.ssrc (agreed_types h.sender h.mid h.pt) (hops.map_over h) (row_over h) h.params.picture_id
+  opened = opened_sender h.ssrc (sender_types h.sender h.mid h.ssrc h.pt) (hops.map_over h) (row_over h) h.params.picture_id
       h.params.for_browsers h.params.first h.params.mtu h.params.limit
 
   same : IsPlain opened s (limit_over h)
@@ -150,6 +151,7 @@ module _ (law : KeepCodecLawInForms) (reached : FirstIsReached) (h : Hop) (x : S
     sends = opus.opened.sends;
     receives = opus.opened.receives;
     ssrc_fits = opus.opened.ssrc_fits;
+    repair_fits = opus.opened.repair_fits;
     sound_params = opus.opened.sound_params;
     sound_samples = sound-one s x is-opus fits.some in-packet fits.values;
     numbers = omega (arith, opus.first, counted);
@@ -161,19 +163,20 @@ module _ (law : KeepCodecLawInForms) (reached : FirstIsReached) (h : Hop) (x : S
       subst EndsSilent (sym (alone law reached h.answer h.sender h.receiver h.mid h.ssrc h.pt h.params (x ∷ [])
       carries-one h.holding one_arrival))
       (silent-end (format_of r.row) h.holding
-      (option_and_then (event_in r) (slice_get (datagrams_of s (x ∷ [])) 0)))
+      (option_and_then (event_in r) (slice_get (source_of s (x ∷ [])).datagrams 0)))
 
   pub is-tame : hops.IsTame h (x ∷ []) one_arrival
   is-tame =
       let next : s.next ≡ 0 = same.next ∙ opus.first in
+      let made : ℕ → Bool = is_repaired (source_of s (x ∷ [])) in
       let order : IsTame 0 (count_of s (x ∷ [])) h.holding (first_size (sizes_at s (x ∷ []))) [] 0
-      (sizes_at s (x ∷ [])) (turns_of 0 (count_of s (x ∷ [])) one_arrival) =
-      subst₂ (λ (n : ℕ) (zs : List ℕ). IsTame 0 n h.holding (first_size zs) [] 0 zs (turns_of 0 n one_arrival))
+      (sizes_at s (x ∷ [])) (turns_of 0 (count_of s (x ∷ [])) made one_arrival) =
+      subst₂ (λ (n : ℕ) (zs : List ℕ). IsTame 0 n h.holding (first_size zs) [] 0 zs (turns_of 0 n made one_arrival))
       (sym counted) (sym (sizes-one s x is-opus fits.some in-packet)) (tame-one h.holding opus.held) in
       record {
         foreign = tt;
         order = subst (λ (n : ℕ). IsTame n (count_of s (x ∷ [])) h.holding (first_size (sizes_at s (x ∷ []))) [] n
-            (sizes_at s (x ∷ [])) (turns_of n (count_of s (x ∷ [])) one_arrival)) (sym next) order;
+            (sizes_at s (x ∷ [])) (turns_of n (count_of s (x ∷ [])) made one_arrival)) (sym next) order;
         before = Arrive 0 ∷ Poll ∷ [];
         last = refl;
         silent = silent;

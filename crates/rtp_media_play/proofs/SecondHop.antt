@@ -14,7 +14,7 @@ use Rattle.h26x_payload.specs.Codings.{forms_for}
 use Rattle.rtp_media_streams.specs.Rows.{coding_in, first_state, rtp_rate, settings_in}
 use Rattle.rtp_media_streams.specs.Sending.{Sample, Sending, opened_sender, packet_limit, samples_of}
 use Rattle.rtp_media_streams.specs.declared.row_format.RowFormat.{RowFormat}
-use Rattle.rtp_media_ends.specs.Ends.{agreed_types}
+use Rattle.rtp_media_ends.specs.Ends.{sender_types}
 use Rattle.rtp_media_ends.specs.FullArrival.{coding_of}
 use Rattle.rtp_media_play.specs.Units.{arriving, units_by, units_for}
 use Rattle.rtp_media_play.specs.declared.schedule.Event.{Event}
@@ -70,7 +70,7 @@ module _ (law : KeepCodecLawInForms) (reached : FirstIsReached) (gives : AllGive
   again = passed_on first samples schedule
 
   abbrev opened : Hop → Sending
-  opened h = opened_sender h.ssrc (agreed_types h.sender h.mid h.pt) (map_over h) (row_over h) h.params.picture_id
+  opened h = opened_sender h.ssrc (sender_types h.sender h.mid h.ssrc h.pt) (map_over h) (row_over h) h.params.picture_id
       h.params.for_browsers h.params.first h.params.mtu h.params.limit
 
   first-plain : IsPlain (opened first) (sender_over first) limit
@@ -158,6 +158,7 @@ module _ (law : KeepCodecLawInForms) (reached : FirstIsReached) (gives : AllGive
     sends = on.opened.sends;
     receives = on.opened.receives;
     ssrc_fits = on.opened.ssrc_fits;
+    repair_fits = on.opened.repair_fits;
     sound_params = on.opened.sound_params;
     sound_samples = record {
       well_formed = good;

@@ -19,7 +19,7 @@ use Rattle.rtp_media_streams.specs.Sending.{payloads_of_samples, wire_payloads}
 use Rattle.rtp_media_streams.specs.declared.row_format.RowFormat.{RowFormat}
 use Rattle.rtp_media_streams.proofs.Cutting.{length-datagrams_from, length-on_wire}
 use Rattle.rtp_media_streams.proofs.Sent.{datagrams_of-consecutive}
-use Rattle.rtp_media_ends.specs.Ends.{EndState, after_open_receiver, agreed_red, agreed_types, receiver_at}
+use Rattle.rtp_media_ends.specs.Ends.{EndState, after_open_receiver, agreed_red, sender_types, receiver_at}
 use Rattle.rtp_media_ends.specs.Ends.{with_distances}
 use Rattle.rtp_media_ends.specs.FullArrival.{AreSound, IsFound, IsSender, coding_of, count_of, sent_samples}
 use Rattle.rtp_media_ends.specs.OwnEvents.{event_in}
@@ -29,14 +29,14 @@ use Rattle.rtp_media_ends.proofs.Datagrams.{AreTheirs}
 use Rattle.rtp_media_ends.proofs.Exact.{all-theirs}
 use Rattle.rtp_media_ends.proofs.Transparent.{transparent}
 use Rattle.rtp_media_play.specs.Runs.{Hears}
-use Rattle.rtp_media_play.specs.Schedules.{own_events, played, poll_answers}
+use Rattle.rtp_media_play.specs.Schedules.{own_events, played, poll_answers, source_of}
 use Rattle.rtp_media_play.specs.Units.{arriving}
 use Rattle.rtp_media_play.specs.declared.schedule.Event.{Event}
-use Rattle.rtp_media_play.specs.declared.schedule.Event.TheVariants.{Arrive, Foreign, Poll}
+use Rattle.rtp_media_play.specs.declared.schedule.Event.TheVariants.{Arrive, Foreign, Poll, Repair}
 use Rattle.rtp_media_play.proofs.Exchanged.{hears, new-is-sender, plain}
 use Rattle.rtp_media_play.proofs.Isolated.{isolated}
 use Rattle.rtp_media_play.specs.Hops.{Carries, Hop, answers_over, map_over, row_over, sender_over}
-use Rattle.rtp_media_play.specs.Redundancy.{AddsRedundancy, opened_with}
+use Rattle.rtp_media_play.specs.Redundancy.{AddsRedundancy, HasNoRepair, opened_with}
 use Rattle.rtp_media_play.proofs.Passed.{samples-arrive}
 
 one-option : {A : Type 0} (a b : Option A) → cons_option a [] ≡ cons_option b [] → a ≡ b
@@ -139,37 +139,39 @@ module _ (law : KeepCodecLawInForms) (s t : Sending) (r : Receiving) (xs : List 
         ∙ sym (get-none (datagrams_of s xs) k (omega (arith, ge, many-plain))))
   ]
 
-  same-events : (schedule : List Event) → own_events (datagrams_of t xs) r schedule
-      ≡ own_events (datagrams_of s xs) r schedule
-  same-events [] = refl
-  same-events (Arrive k ∷ es) = ap₂ (λ (o : Option hearing.Event) (hs : List hearing.Event). cons_option o hs)
-      (same-arrival k) (same-events es)
-  same-events (Foreign d ∷ es) = ap (λ (hs : List hearing.Event). cons_option (event_in r d) hs) (same-events es)
-  same-events (Poll ∷ es) = ap (λ (hs : List hearing.Event). hearing.Poll ∷ hs) (same-events es)
+  same-events : (schedule : List Event) → HasNoRepair schedule → own_events (source_of t xs) r schedule
+      ≡ own_events (source_of s xs) r schedule
+  same-events [] none = refl
+  same-events (Arrive k ∷ es) none = ap₂ (λ (o : Option hearing.Event) (hs : List hearing.Event). cons_option o hs)
+      (same-arrival k) (same-events es none)
+  same-events (Repair k ∷ es) none = absurd none
+  same-events (Foreign d ∷ es) none =
+      ap (λ (hs : List hearing.Event). cons_option (event_in r d) hs) (same-events es none)
+  same-events (Poll ∷ es) none = ap (λ (hs : List hearing.Event). hearing.Poll ∷ hs) (same-events es none)
 
   -- the answers to the polls are the same
   pub same-answers : (e : EndState) (rx : ℕ) (schedule : List Event) → receiver_at e rx ≡ r → IsFound e rx r
-      → poll_answers (played (datagrams_of t xs) rx e schedule)
-      ≡ poll_answers (played (datagrams_of s xs) rx e schedule)
-  same-answers e rx schedule is found =
+      → HasNoRepair schedule → poll_answers (played (source_of t xs) rx e schedule)
+      ≡ poll_answers (played (source_of s xs) rx e schedule)
+  same-answers e rx schedule is found none =
       let same : receiver_at e rx ≡ with_stream r (receiver_at e rx).stream =
       is ∙ ap (with_stream r) (sym (ap (λ (x : Receiving). x.stream) is)) in
-      isolated (datagrams_of t xs) rx r schedule e (record { same = same; known = found })
-      ∙ ap (heard (format_of r.row) (receiver_at e rx).stream) (same-events schedule)
-      ∙ sym (isolated (datagrams_of s xs) rx r schedule e (record { same = same; known = found }))
+      isolated (source_of t xs) rx r schedule e (record { same = same; known = found })
+      ∙ ap (heard (format_of r.row) (receiver_at e rx).stream) (same-events schedule none)
+      ∙ sym (isolated (source_of s xs) rx r schedule e (record { same = same; known = found }))
 
 -- a stream without redundancy adds none
 plain-adds-none : (h : Hop) (p : StreamParams) → p.red ≡ None → (sender_over (opened_with h p)).redundancy ≡ None
 plain-adds-none h p none =
-    let s : Sending = opened_sender h.ssrc (agreed_types h.sender h.mid h.pt) (map_over h) (row_over h) p.picture_id
+    let s : Sending = opened_sender h.ssrc (sender_types h.sender h.mid h.ssrc h.pt) (map_over h) (row_over h) p.picture_id
     p.for_browsers p.first p.mtu p.limit in
     ap (λ (d : Option (List ℕ)). (with_distances s (agreed_red h.sender h.mid h.pt) d).redundancy) none
 
 -- between two ends that exchanged texts
 pub same-over : KeepCodecLawInForms → FirstIsReached → (h : Hop) (p q : StreamParams) (xs : List Sample)
-    (schedule : List Event) → AddsRedundancy h p q → Carries (opened_with h p) xs
+    (schedule : List Event) → AddsRedundancy h p q → Carries (opened_with h p) xs → HasNoRepair schedule
     → answers_over (opened_with h q) xs schedule ≡ answers_over (opened_with h p) xs schedule
-same-over law first h p q xs schedule adds to =
+same-over law first h p q xs schedule adds to unrepaired =
     let s : Sending = sender_over (opened_with h p) in
     let t : Sending = sender_over (opened_with h q) in
     let e : EndState = after_open_receiver h.receiver h.mid h.ssrc h.pt h.holding in
@@ -180,6 +182,7 @@ same-over law first h p q xs schedule adds to =
       sends = to.sends;
       receives = to.receives;
       ssrc_fits = to.ssrc_fits;
+      repair_fits = to.repair_fits;
       sound_params = adds.sound;
       sound_samples = record { well_formed = tt; values = All-nil _ };
       numbers = small;
@@ -197,11 +200,11 @@ same-over law first h p q xs schedule adds to =
       packets = b.limit_is ∙ adds.packets ∙ sym a.limit_is;
       packetizer = b.packetizer ∙ ap (first_state (row_over h)) adds.picture_id ∙ sym a.packetizer;
       none = plain-adds-none h p adds.none;
-      plain_sound = new-is-sender first h.sender h.mid h.ssrc h.pt p to.sends to.ssrc_fits to.sound_params;
-      redundant_sound = new-is-sender first h.sender h.mid h.ssrc h.pt q to.sends to.ssrc_fits adds.sound;
+      plain_sound = new-is-sender first h.sender h.mid h.ssrc h.pt p to.sends to.ssrc_fits to.repair_fits to.sound_params;
+      redundant_sound = new-is-sender first h.sender h.mid h.ssrc h.pt q to.sends to.ssrc_fits to.repair_fits adds.sound;
     } in
     let hear : Hears e n h.holding s xs =
     hears law first h.answer h.sender h.receiver h.mid h.ssrc h.pt p xs to h.holding in
     same-answers law s t (opened_receiver s.ssrc s.types s.map s.row h.holding) xs twins
     (record { ssrc = refl; types = refl; map = refl }) to.sound_samples e n schedule hear.receiver.stream_is
-    hear.receiver.found
+    hear.receiver.found unrepaired

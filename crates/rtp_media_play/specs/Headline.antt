@@ -1,16 +1,16 @@
 -- Two ends that exchanged texts, and each opened a stream.
-use Rattle.std.specs.Prelude.{ℕ, ◌+◌, ◌^◌, ◌<◌, ◌≤◌, List, length}
+use Rattle.std.specs.Prelude.{ℕ, ◌+◌, ◌^◌, ◌<◌, ◌≤◌, List, length, IfSome}
 use Rattle.rtp_media_schedules.specs.Hearing.{Answer, Holding}
 use Rattle.rtp_media_schedules.specs.SentSamples.{Timed}
-use Rattle.rtp_media_streams.specs.Sending.{Sample, datagrams_of}
+use Rattle.rtp_media_streams.specs.Sending.{Sample}
 use Rattle.rtp_media_ends.specs.Connections.{HaveExchanged}
 use Rattle.rtp_media_ends.specs.Ends.{EndState, after_open_receiver, agreed_format, agreed_red, new_sender}
-use Rattle.rtp_media_ends.specs.Ends.{stream_map}
+use Rattle.rtp_media_ends.specs.Ends.{sender_types, stream_map}
 use Rattle.rtp_media_ends.specs.FullArrival.{AreSound, count_of}
 use Rattle.rtp_media_ends.specs.OpensAt.{ReceivesAt, SendsAt}
 use Rattle.rtp_media_ends.specs.Params.{IsSound}
 use Rattle.rtp_media_ends.specs.declared.StreamParams.{StreamParams}
-use Rattle.rtp_media_play.specs.Schedules.{played, poll_answers}
+use Rattle.rtp_media_play.specs.Schedules.{played, poll_answers, source_of}
 use Rattle.rtp_media_play.specs.Units.{packet_limit_of, units_for}
 use Rattle.rtp_media_play.specs.declared.schedule.Event.{Event}
 
@@ -23,6 +23,7 @@ pub record SendsTo (answer : List ℕ) (a b : EndState) (mid : List ℕ) (ssrc p
   pub sends : SendsAt a mid ssrc pt
   pub receives : ReceivesAt b mid ssrc pt
   pub ssrc_fits : ssrc < 2 ^ 32
+  pub repair_fits : IfSome (sender_types a mid ssrc pt).repair (λ key. key.ssrc < 2 ^ 32)
   pub sound_params : IsSound (agreed_red a mid pt) params
   pub sound_samples : AreSound (new_sender a mid ssrc pt params) samples
   pub numbers : params.first + count_of (new_sender a mid ssrc pt params) samples ≤ 2 ^ 62
@@ -31,7 +32,7 @@ pub record SendsTo (answer : List ℕ) (a b : EndState) (mid : List ℕ) (ssrc p
 abbrev pub answers_of : EndState → EndState → List ℕ → ℕ → ℕ → StreamParams → Holding → List Sample → List Event
     → List Answer
 answers_of a b mid ssrc pt params holding samples schedule =
-    poll_answers (played (datagrams_of (new_sender a mid ssrc pt params) samples) (length b.streams)
+    poll_answers (played (source_of (new_sender a mid ssrc pt params) samples) (length b.streams)
     (after_open_receiver b mid ssrc pt holding) schedule)
 
 -- The canonical units of the samples.

@@ -1,11 +1,14 @@
 -- Samples that are pushed one after the other, and runs that stop.
 use Rattle.std.specs.Prelude.{ℕ, suc, ◌≡◌, ◌≤◌, ◌⊎◌, List, [], ◌∷◌, length, take, Option, Some, None}
-use Rattle.rtp_media_streams.specs.Sending.{HasFailed, Sample, Sending, after_sample, after_samples, datagrams_of}
+use Rattle.std.specs.Prelude.{Result, Ok, Err}
+use Rattle.rtp_media_streams.specs.Repairing.{with_repair}
+use Rattle.rtp_media_streams.specs.Sending.{HasFailed, Sample, Sending, after_sample, after_samples}
 use Rattle.rtp_media_streams.specs.Sending.{first_refusal, refusal_of_sample}
+use Rattle.rtp_media_streams.specs.declared.errors.RepairError.{RepairError}
 use Rattle.rtp_media_streams.specs.declared.errors.SampleError.{SampleError}
 use Rattle.rtp_media_ends.specs.Ends.{EndState, sender_at, with_sender}
 use Rattle.rtp_media_ends.specs.Stops.{PollStops}
-use Rattle.rtp_media_play.specs.Schedules.{after_schedule}
+use Rattle.rtp_media_play.specs.Schedules.{Source, after_schedule, made_at, source_after_all, source_of}
 use Rattle.rtp_media_play.specs.declared.schedule.Event.{Event}
 
 -- Why a stream refuses one of these samples: the first refusal, lack of memory aside.
@@ -37,13 +40,34 @@ pub record PushesSome (e : EndState) (tx : ℕ) (samples : List Sample) (after :
       ⊎ HasFailed (after_samples (sender_at e tx) (take count samples)) (sender_at after tx)
   pub others : after ≡ with_sender e tx (sender_at after tx)
 
--- Some first events of a schedule happened, and then memory ran out, maybe in a poll.
-pub record PlaysSome (sent : List (List ℕ)) (rx : ℕ) (e : EndState) (schedule : List Event) (after : EndState)
+-- An end's sending stream that has sent these datagrams.
+abbrev pub source_at : EndState → ℕ → List (List ℕ) → Source
+source_at e tx datagrams = record { datagrams = datagrams; stream = sender_at e tx }
+
+-- The end after a repair, and after those of a schedule: the stream counts them.
+abbrev pub after_made : EndState → ℕ → Option (Result (List ℕ) RepairError) → EndState
+after_made e tx None = e
+after_made e tx (Some (Err refusal)) = e
+after_made e tx (Some (Ok bytes)) = with_sender e tx (with_repair (sender_at e tx))
+
+abbrev pub after_repairs : EndState → ℕ → Source → List Event → EndState
+after_repairs e tx sent schedule = with_sender e tx (source_after_all sent schedule).stream
+
+-- Memory ran out in an event: in a poll, for a repair, or for bytes, which weren't taken in, a repair's too.
+pub record StopsAt (sent : Source) (tx rx : ℕ) (a b : EndState) (event : Event) (after_a after_b : EndState)
+    : Type 0 where
+  pub sender : (after_a ≡ a) ⊎ (after_a ≡ after_made a tx (made_at sent event))
+  pub receiver : (after_b ≡ b) ⊎ PollStops b rx after_b
+
+-- Some first events of a schedule happened, and then memory ran out, maybe in a poll, or behind one repair more.
+pub record PlaysSome (sent : Source) (tx rx : ℕ) (a b : EndState) (schedule : List Event) (after_a after_b : EndState)
     : Type 0 where
   pub count : ℕ
   pub place : count ≤ length schedule
-  pub stops : (after ≡ after_schedule sent rx e (take count schedule))
-      ⊎ PollStops (after_schedule sent rx e (take count schedule)) rx after
+  pub sender : (after_a ≡ after_repairs a tx sent (take count schedule))
+      ⊎ (after_a ≡ after_repairs a tx sent (take (suc count) schedule))
+  pub receiver : (after_b ≡ after_schedule sent rx b (take count schedule))
+      ⊎ PollStops (after_schedule sent rx b (take count schedule)) rx after_b
 
 -- Memory ran out while samples were pushed, and nothing of the schedule happened; or all were pushed, and some
 -- first events happened.
@@ -52,6 +76,5 @@ pub data IsCutShort (a b : EndState) (tx rx : ℕ) (samples : List Sample) (sche
   AtPush : (some : PushesSome a tx samples after_a) (same : after_b ≡ b)
       → IsCutShort a b tx rx samples schedule after_a after_b
   AtEvent : (accepted : refusal_of_samples (sender_at a tx) samples ≡ None)
-      (pushed : after_a ≡ after_pushes a tx samples)
-      (some : PlaysSome (datagrams_of (sender_at a tx) samples) rx b schedule after_b)
+      (some : PlaysSome (source_of (sender_at a tx) samples) tx rx a b schedule after_a after_b)
       → IsCutShort a b tx rx samples schedule after_a after_b

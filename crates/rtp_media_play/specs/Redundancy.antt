@@ -1,10 +1,20 @@
 -- One stream between two ends, opened without redundancy and with it.
-use Rattle.std.specs.Prelude.{◌≡◌, None}
+use Rattle.std.specs.Prelude.{◌≡◌, List, [], ◌∷◌, None}
 use Rattle.rtp_media_ends.specs.Ends.{agreed_red}
 use Rattle.rtp_media_ends.specs.Params.{IsSound}
 use Rattle.rtp_media_ends.specs.declared.StreamParams.{StreamParams}
 use Rattle.rtp_media_play.specs.Units.{packet_limit_of}
 use Rattle.rtp_media_play.specs.Hops.{Hop}
+use Rattle.rtp_media_play.specs.declared.schedule.Event.{Event}
+use Rattle.rtp_media_play.specs.declared.schedule.Event.TheVariants.{Arrive, Foreign, Poll, Repair}
+
+-- A schedule without repairs: a stream with redundancy makes none.
+abbrev pub HasNoRepair : List Event → Type 0
+HasNoRepair [] = Unit {0}
+HasNoRepair (Arrive k ∷ xs) = HasNoRepair xs
+HasNoRepair (Repair k ∷ xs) = ⊥
+HasNoRepair (Foreign bytes ∷ xs) = HasNoRepair xs
+HasNoRepair (Poll ∷ xs) = HasNoRepair xs
 
 -- The stream opened with other parameters.
 abbrev pub opened_with : Hop → StreamParams → Hop

@@ -12,23 +12,26 @@ use Rattle.rtp_media_streams.specs.declared.types.PayloadTypes.{PayloadTypes}
 use Rattle.rtp_media_ends.specs.Ends.{EndState}
 use Rattle.rtp_media_ends.specs.FullArrival.{AreSound, HasReceiver, IsSender, count_of, is_own_datagram}
 use Rattle.rtp_media_ends.specs.FullArrival.{sent_samples}
-use Rattle.rtp_media_play.specs.Schedules.{turns_of}
+use Rattle.rtp_media_play.specs.Schedules.{is_repaired, source_of, turns_of}
 use Rattle.rtp_media_play.specs.declared.schedule.Event.{Event}
-use Rattle.rtp_media_play.specs.declared.schedule.Event.TheVariants.{Arrive, Foreign, Poll}
+use Rattle.rtp_media_play.specs.declared.schedule.Event.TheVariants.{Arrive, Foreign, Poll, Repair}
 
--- No other bytes of a schedule read as a header with this SSRC and one of these payload types (RFC 3550 5.1).
+-- No other bytes of a schedule read as a header with this SSRC and one of these payload types, or with the SSRC and
+-- type of its repairs (RFC 3550 5.1).
 abbrev pub AreForeign : ℕ → PayloadTypes → List Event → Type 0
 AreForeign ssrc types [] = Unit {0}
 AreForeign ssrc types (Arrive k ∷ xs) = AreForeign ssrc types xs
+AreForeign ssrc types (Repair k ∷ xs) = AreForeign ssrc types xs
 AreForeign ssrc types (Foreign bytes ∷ xs) = (is_own_datagram ssrc types bytes ≡ false) × AreForeign ssrc types xs
 AreForeign ssrc types (Poll ∷ xs) = AreForeign ssrc types xs
 
--- The arrivals of a stream's datagrams by true numbers, and the polls.
+-- The arrivals of a stream's datagrams by true numbers, repairs too, and the polls.
 abbrev pub turns_at : Sending → List Sample → List Event → List Turn
-turns_at s samples schedule = turns_of s.next (count_of s samples) schedule
+turns_at s samples schedule =
+    turns_of s.next (count_of s samples) (is_repaired (source_of s samples)) schedule
 
--- A sane schedule of samples: nobody else sends under the stream's SSRC and types, the first datagram to arrive is
--- numbered below 65,536, and each later one less than 32,768 from the greatest that arrived.
+-- A sane schedule of samples: nobody else sends under the stream's SSRC and types or those of its repairs, the first
+-- datagram to arrive is numbered below 65,536, and each later one less than 32,768 from the greatest that arrived.
 pub record IsSaneSchedule (s : Sending) (samples : List Sample) (schedule : List Event) : Type 0 where
   pub foreign : AreForeign s.ssrc s.types schedule
   pub order : IsSane s.next (count_of s samples) [] (turns_at s samples schedule)

@@ -1,14 +1,16 @@
 //! Single events of a schedule.
 
-ghost use Rattle.std.specs.Prelude.{◌≡◌, true, IfOk, OnOk, OnErr, Some};
+ghost use Rattle.std.specs.Prelude.{◌≡◌, ◌⊎◌, true, IfOk, OnOk, OnErr, Some, option_to_list};
 ghost use Rattle.rtp_media_ends.specs.EndArrivals.{after_datagram, verdict_of};
-ghost use Rattle.rtp_media_ends.specs.Ends.{is_receiver_at, receiver_at, with_receiver};
+ghost use Rattle.rtp_media_ends.specs.Ends.{is_receiver_at, is_sender_at, receiver_at, sender_at, with_receiver};
+ghost use Rattle.rtp_media_streams.specs.Repairing as repairing;
 ghost use Rattle.rtp_media_streams.specs.Receiving.{polled_receiver};
 ghost use Rattle.rtp_media_ends.specs.Stops.{PollStops};
-ghost use Rattle.rtp_media_play.specs.Schedules.{answer_at};
+ghost use Rattle.rtp_media_play.specs.Pushing.{after_made};
+ghost use Rattle.rtp_media_play.specs.Schedules.{after_bytes, answer_at, answers_on, bytes_of};
 
 use crate::schedule::Played;
-use rtp_media_ends::{End, PollFault};
+use rtp_media_ends::{End, PollFault, RepairError};
 use std::alloc::AllocError;
 
 /// Hands bytes to an end.
@@ -20,6 +22,34 @@ pub(crate) fn receive(end: &mut End, bytes: &[u8]) -> Result<Option<Played>, All
     match end.receive(bytes) {
         Ok(verdict) => Ok(Some(Played::Received(verdict))),
         Err(_) => Err(AllocError),
+    }
+}
+
+/// Has a sending stream of one end repair a datagram, and hands the repair to the other end; a refusal hands nothing
+/// over, and lack of memory is none.
+pub(crate) fn repair(
+    a: &mut End,
+    b: &mut End,
+    tx: usize,
+    datagram: &[u8],
+) -> Result<Option<Played>, AllocError>
+    requires { is_sender_at a.old tx ≡ true }
+    ensures answer { let made = Some (repairing.repair (sender_at a.old tx) datagram.now) in
+        IfOk result (λ answer. option_to_list answer ≡ answers_on b.old made) }
+    ensures made { let made = Some (repairing.repair (sender_at a.old tx) datagram.now) in
+        OnOk result (a.new ≡ after_made a.old tx made) }
+    ensures after { let made = Some (repairing.repair (sender_at a.old tx) datagram.now) in
+        OnOk result (b.new ≡ after_bytes b.old (bytes_of made)) }
+    ensures unfinished { let made = Some (repairing.repair (sender_at a.old tx) datagram.now) in
+        OnErr result ((a.new ≡ a.old) ⊎ (a.new ≡ after_made a.old tx made)) }
+    ensures unchanged { OnErr result (b.new ≡ b.old) }
+{
+    match a.repair(tx, datagram) {
+        Ok(repair) => receive(b, repair.as_slice()),
+        Err(error) => match error {
+            RepairError::Memory => Err(AllocError),
+            refusal => Ok(Some(Played::NotRepaired(refusal))),
+        },
     }
 }
 

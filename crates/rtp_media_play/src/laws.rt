@@ -6,14 +6,14 @@ ghost use Rattle.rtp_media_schedules.specs.SentSamples.{timed_unit};
 ghost use Rattle.rtp_media_schedules.specs.Legal.{IsLegal};
 ghost use Rattle.rtp_media_schedules.specs.Samples.{whole_unit};
 ghost use Rattle.rtp_media_streams.specs.Rows.{format_of};
-ghost use Rattle.rtp_media_streams.specs.Sending.{Sample, datagrams_of};
+ghost use Rattle.rtp_media_streams.specs.Sending.{Sample};
 ghost use Rattle.rtp_media_ends.specs.Ends.{EndState, after_open_receiver, new_receiver, new_sender};
 ghost use Rattle.rtp_media_ends.specs.Ends.{refusal_of_open_receiver, refusal_of_open_sender};
 ghost use Rattle.rtp_media_ends.specs.OpensAt.{ReceivesAt, SendsAt};
 ghost use Rattle.rtp_media_ends.specs.declared.StreamParams.{StreamParams};
 ghost use Rattle.rtp_media_play.specs.Headline.{SendsTo, answers_of, units};
 ghost use Rattle.rtp_media_play.specs.Runs.{Hears, IsSaneSchedule, IsTameSchedule, canonical_of};
-ghost use Rattle.rtp_media_play.specs.Schedules.{own_events};
+ghost use Rattle.rtp_media_play.specs.Schedules.{own_events, source_of};
 ghost use Rattle.rtp_media_play.specs.declared.schedule.Event.{Event};
 
 use h26x_payload::codec_law;
@@ -35,7 +35,7 @@ pub fn headline()
     ensures alone { (answer : List ℕ) (a b : EndState) (mid : List ℕ) (ssrc pt : ℕ) (params : StreamParams)
         (samples : List Sample) (holding : Holding) (schedule : List Event) →
         let receiver = new_receiver b mid ssrc pt holding in
-        let sent = datagrams_of (new_sender a mid ssrc pt params) samples in
+        let sent = source_of (new_sender a mid ssrc pt params) samples in
         SendsTo answer a b mid ssrc pt params samples →
         answers_of a b mid ssrc pt params holding samples schedule
         ≡ heard (format_of receiver.row) (fresh holding) (own_events sent receiver schedule) }

@@ -4,6 +4,7 @@
 mod again;
 mod answered;
 mod events;
+mod late_repairs;
 mod laws;
 mod names;
 mod opus;
@@ -18,15 +19,17 @@ mod well_formed;
 
 pub use again::again_law;
 pub use answered::answered_rows_law;
+pub use late_repairs::late_repairs_law;
 pub use laws::headline;
 pub use names::names_law;
 pub use opus::opus_over_two_hops;
 pub use redundancy::redundancy_law;
 pub use rtp_media_ends::{
-    Bandwidth, Codec, CodecConfig, CodecSpec, Datagram, Distances, End, EndError, ExchangeError,
-    FormatParams, MAX_HELD, MIN_HELD, MediaKind, OpenError, PacketError, PayloadParams, PollFault,
-    Polls, ReceiveError, Received, ReceivedAll, RoundError, SampleError, SdpError, SectionSpec,
-    Session, SessionAttribute, StreamParams, Unit, connect, may_hold,
+    AgreedSection, Bandwidth, Codec, CodecConfig, CodecSpec, Datagram, Distances, End, EndError,
+    ExchangeError, FormatParams, MAX_HELD, MIN_HELD, MediaKind, OpenError, PacketError,
+    PayloadParams, PollFault, Polls, ReceiveError, Received, ReceivedAll, RepairError, RoundError,
+    SampleError, SdpError, SectionSpec, Session, SessionAttribute, StreamParams, Unit, are_sound,
+    connect, may_hold,
 };
 pub use runs::play;
 pub use sample::Sample;

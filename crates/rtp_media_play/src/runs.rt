@@ -11,14 +11,13 @@ ghost use Rattle.rtp_media_ends.specs.Ends.{is_receiver_at, is_sender_at, receiv
 ghost use Rattle.rtp_media_ends.specs.FullArrival.{IsFound, units_of};
 ghost use Rattle.rtp_media_play.specs.Runs.{Hears, IsSaneSchedule, IsTameSchedule, canonical_of};
 ghost use Rattle.rtp_media_ends.specs.Ends.{sender_at};
-ghost use Rattle.rtp_media_streams.specs.Sending.{datagrams_of};
-ghost use Rattle.rtp_media_ends.specs.Stops.{PollStops};
-ghost use Rattle.rtp_media_play.specs.Pushing.{IsCutShort, IsRefusedAt, PlaysSome, after_pushes};
-ghost use Rattle.rtp_media_play.specs.Pushing.{refusal_of_samples};
-ghost use Rattle.rtp_media_play.specs.Schedules.{after_event, after_schedule, answers_to, own_events, played};
-ghost use Rattle.rtp_media_play.specs.Schedules.{poll_answers};
+ghost use Rattle.rtp_media_play.specs.Pushing.{IsCutShort, IsRefusedAt, PlaysSome, StopsAt, after_made, after_repairs};
+ghost use Rattle.rtp_media_play.specs.Pushing.{refusal_of_samples, source_at};
+ghost use Rattle.rtp_media_play.specs.Schedules.{after_bytes, after_event, after_schedule, answers_on, answers_to};
+ghost use Rattle.rtp_media_play.specs.Schedules.{bytes_of, made_at, own_events, played, poll_answers, repair_at};
+ghost use Rattle.rtp_media_play.specs.Schedules.{source_of};
 
-use crate::events::{poll, receive};
+use crate::events::{poll, receive, repair};
 use crate::pushing::push_samples;
 use crate::sample::Sample;
 use crate::schedule::{Event, Played};
@@ -27,8 +26,8 @@ use rtp_media_ends::{Datagram, End, SampleError};
 use std::alloc::{AllocError, Global};
 
 /// Pushes samples at a sending stream of `a`, one after the other, and then lets a schedule happen at `b`, whose polls
-/// are polls of one of its receiving streams. Answers what `b` says of the bytes that arrive and what the polls
-/// answer, in order.
+/// are polls of one of its receiving streams, and whose repairs that sending stream makes. Answers what `b` says of the
+/// bytes that arrive, why a repair is refused, and what the polls answer, in order.
 ///
 /// # Conditions
 /// `tx` is the number of a sending stream of `a`, and `rx` that of a receiving stream of `b`: `End::is_sender`,
@@ -49,20 +48,21 @@ pub fn play(
     requires sender { is_sender_at a.old tx ≡ true }
     requires receiver { is_receiver_at b.old rx ≡ true }
     ensures accepted { OnOk result (refusal_of_samples (sender_at a.old tx) samples.now ≡ None) }
-    ensures pushed { OnOk result (a.new ≡ after_pushes a.old tx samples.now) }
-    ensures answers { let sent = datagrams_of (sender_at a.old tx) samples.now in
+    ensures repaired { let sent = source_of (sender_at a.old tx) samples.now in
+        OnOk result (a.new ≡ after_repairs a.old tx sent schedule.now) }
+    ensures answers { let sent = source_of (sender_at a.old tx) samples.now in
         IfOk result (λ all. all.items ≡ played sent rx b.old schedule.now) }
-    ensures after { let sent = datagrams_of (sender_at a.old tx) samples.now in
+    ensures after { let sent = source_of (sender_at a.old tx) samples.now in
         OnOk result (b.new ≡ after_schedule sent rx b.old schedule.now) }
     ensures refused { IfErr result (λ e. e ≢ SampleError.Memory → IsRefusedAt a.old tx samples.now e a.new) }
     ensures unplayed { IfErr result (λ e. e ≢ SampleError.Memory → b.new ≡ b.old) }
     ensures memory { IfErr result (λ e. e ≡ SampleError.Memory →
         IsCutShort a.old b.old tx rx samples.now schedule.now a.new b.new) }
 
-    // Isolation: whatever bytes come, the answers to the polls are what the stream hears of its own datagrams and
-    // polls, in their order.
+    // Isolation: whatever bytes come, the answers to the polls are what the stream hears of its own datagrams, repairs
+    // of them, and polls, in their order.
     ensures isolated { let receiver = receiver_at b.old rx in
-        let sent = datagrams_of (sender_at a.old tx) samples.now in
+        let sent = source_of (sender_at a.old tx) samples.now in
         IfOk result (λ all. IsFound b.old rx receiver → poll_answers all.items
         ≡ heard (format_of receiver.row) receiver.stream (own_events sent receiver schedule.now)) }
     // Legal under every sane schedule: what the polls hand out is the canonical units, in order and each at most
@@ -82,28 +82,36 @@ pub fn play(
         Ok(datagrams) => datagrams,
         Err(refusal) => return Err(refusal),
     };
-    match play_schedule(alloc, b, rx, &datagrams, schedule) {
+    match play_schedule(alloc, a, b, tx, rx, &datagrams, schedule) {
         Ok(all) => Ok(all),
         Err(_) => Err(SampleError::Memory),
     }
 }
 
-/// Lets a schedule happen at an end.
+/// Lets a schedule happen between two ends.
 fn play_schedule(
     alloc: Global,
-    end: &mut End,
+    a: &mut End,
+    b: &mut End,
+    tx: usize,
     rx: usize,
     datagrams: &[Datagram],
     schedule: &[Event],
 ) -> Result<Vec<Played>, AllocError>
-    requires { is_receiver_at end.old rx ≡ true }
-    ensures answers { IfOk result (λ all. all.items ≡ played datagrams.now rx end.old schedule.now) }
-    ensures after { OnOk result (end.new ≡ after_schedule datagrams.now rx end.old schedule.now) }
-    ensures some { OnErr result (PlaysSome datagrams.now rx end.old schedule.now end.new) }
+    requires sender { is_sender_at a.old tx ≡ true }
+    requires receiver { is_receiver_at b.old rx ≡ true }
+    ensures answers { let sent = source_at a.old tx datagrams.now in
+        IfOk result (λ all. all.items ≡ played sent rx b.old schedule.now) }
+    ensures repaired { let sent = source_at a.old tx datagrams.now in
+        OnOk result (a.new ≡ after_repairs a.old tx sent schedule.now) }
+    ensures after { let sent = source_at a.old tx datagrams.now in
+        OnOk result (b.new ≡ after_schedule sent rx b.old schedule.now) }
+    ensures some { let sent = source_at a.old tx datagrams.now in
+        OnErr result (PlaysSome sent tx rx a.old b.old schedule.now a.new b.new) }
 {
     let mut all = Vec::new(alloc);
     for event in schedule {
-        let answer = play_event(end, rx, datagrams, event)?;
+        let answer = play_event(a, b, tx, rx, datagrams, event)?;
         keep(&mut all, answer)?;
     }
     Ok(all)
@@ -111,23 +119,57 @@ fn play_schedule(
 
 /// Lets an event happen.
 fn play_event(
-    end: &mut End,
+    a: &mut End,
+    b: &mut End,
+    tx: usize,
     rx: usize,
     datagrams: &[Datagram],
     event: &Event,
 ) -> Result<Option<Played>, AllocError>
-    requires { is_receiver_at end.old rx ≡ true }
-    ensures answer { IfOk result (λ answer. option_to_list answer ≡ answers_to datagrams.now rx end.old event.now) }
-    ensures after { OnOk result (end.new ≡ after_event datagrams.now rx end.old event.now) }
-    ensures stops { OnErr result ((end.new ≡ end.old) ⊎ PollStops end.old rx end.new) }
+    requires sender { is_sender_at a.old tx ≡ true }
+    requires receiver { is_receiver_at b.old rx ≡ true }
+    ensures answer { let sent = source_at a.old tx datagrams.now in
+        IfOk result (λ answer. option_to_list answer ≡ answers_to sent rx b.old event.now) }
+    ensures made { let sent = source_at a.old tx datagrams.now in
+        OnOk result (a.new ≡ after_made a.old tx (made_at sent event.now)) }
+    ensures after { let sent = source_at a.old tx datagrams.now in
+        OnOk result (b.new ≡ after_event sent rx b.old event.now) }
+    ensures stops { let sent = source_at a.old tx datagrams.now in
+        OnErr result (StopsAt sent tx rx a.old b.old event.now a.new b.new) }
 {
     match event {
         Event::Arrive(k) => match datagrams.get(*k) {
-            Some(datagram) => receive(end, datagram.as_slice()),
+            Some(datagram) => receive(b, datagram.as_slice()),
             None => Ok(None),
         },
-        Event::Foreign(bytes) => receive(end, bytes.as_slice()),
-        Event::Poll => poll(end, rx),
+        Event::Repair(k) => repair_at(a, b, tx, datagrams, *k),
+        Event::Foreign(bytes) => receive(b, bytes.as_slice()),
+        Event::Poll => poll(b, rx),
+    }
+}
+
+/// Has the datagram of a place repaired, and hands the repair over; past the last one nothing happens.
+fn repair_at(
+    a: &mut End,
+    b: &mut End,
+    tx: usize,
+    datagrams: &[Datagram],
+    k: usize,
+) -> Result<Option<Played>, AllocError>
+    requires { is_sender_at a.old tx ≡ true }
+    ensures answer { let made = repair_at (source_at a.old tx datagrams.now) k in
+        IfOk result (λ answer. option_to_list answer ≡ answers_on b.old made) }
+    ensures made { let made = repair_at (source_at a.old tx datagrams.now) k in
+        OnOk result (a.new ≡ after_made a.old tx made) }
+    ensures after { let made = repair_at (source_at a.old tx datagrams.now) k in
+        OnOk result (b.new ≡ after_bytes b.old (bytes_of made)) }
+    ensures unfinished { let made = repair_at (source_at a.old tx datagrams.now) k in
+        OnErr result ((a.new ≡ a.old) ⊎ (a.new ≡ after_made a.old tx made)) }
+    ensures unchanged { OnErr result (b.new ≡ b.old) }
+{
+    match datagrams.get(k) {
+        Some(datagram) => repair(a, b, tx, datagram.as_slice()),
+        None => Ok(None),
     }
 }
 

@@ -3,16 +3,16 @@ use Rattle.std.specs.Prelude.{IfSome}
 use Rattle.sdp_formats_rows.specs.Rows.{Row}
 use Rattle.rtp_media_sections.specs.Agreement.{agreed_row_of}
 use Rattle.rtp_media_streams.specs.Sending.{Sending, packet_limit}
-use Rattle.rtp_media_ends.specs.Ends.{EndState, after_open_receiver, agreed_format, agreed_red, agreed_types}
+use Rattle.rtp_media_ends.specs.Ends.{EndState, after_open_receiver, agreed_format, agreed_red, sender_types}
 use Rattle.rtp_media_ends.specs.Ends.{new_sender}
 use Rattle.rtp_media_ends.specs.Ends.{stream_map}
-use Rattle.rtp_media_ends.specs.FullArrival.{count_of}
+use Rattle.rtp_media_ends.specs.FullArrival.{IsSender, count_of}
 use Rattle.rtp_media_ends.specs.OpensAt.{SendsAt}
 use Rattle.rtp_media_ends.specs.Params.{IsSound}
 use Rattle.rtp_media_play.specs.Headline.{SendsTo}
 use Rattle.rtp_media_play.specs.Runs.{Hears}
 use Rattle.media_uses.specs.Call.{SendsPieces, sends_pieces, opened_to_hold}
-use Rattle.media_uses.proofs.Streams.{has-room, sends-pieces, sound-short}
+use Rattle.media_uses.proofs.Streams.{has-room, key-low, sends-pieces, sound-short}
 use Rattle.media_uses.proofs.Three.{count-three}
 use Rattle.std.proofs.lemmas.Grind.{common_steps}
 use Rattle.media_uses.proofs.carrying.carry_between.Goals as goal
@@ -41,7 +41,8 @@ carry_over-requires-clause-hears c =
     (c.headline.ensures.sends a c.from-mid.result c.from-ssrc.result c.args.pt).0 c.in-Ok.ensures.opens in
     let pieces : sends_pieces s.row.codec ≡ true = sends-pieces a c.from-mid.result c.from-ssrc.result c.args.pt
     c.args.params agreed sends in
-    let room : 1199 ≤ packet_limit s = has-room c.from-ssrc.result (agreed_types a c.from-mid.result c.args.pt)
+    let room : 1199 ≤ packet_limit s = has-room c.from-ssrc.result (sender_types a c.from-mid.result c.from-ssrc.result
+    c.args.pt)
     (stream_map a c.from-mid.result) (agreed_format a c.from-mid.result c.args.pt) c.args.params
     (agreed_red a c.from-mid.result c.args.pt) c.args.params.red c.requires.mtu in
     let count : count_of s c.args.samples.now ≡ 3 =
@@ -54,6 +55,8 @@ carry_over-requires-clause-hears c =
       receives = (c.headline.ensures.receives b c.from-mid.result c.from-ssrc.result c.args.pt).0
           c.in-Ok-open_receiver.ensures.opens;
       ssrc_fits = omega arith;
+      repair_fits = key-low a c.from-mid.result c.from-ssrc.result c.args.pt c.args.params
+          (subst IsSender c.in-Ok.ensures.stream c.in-Ok.ensures.sender);
       sound_params = subst (λ (red : Option ℕ). IsSound red c.args.params) c.agreed_red.ensures sound;
       sound_samples = sound-short s c.args.samples.now pieces c.requires.short;
       numbers = omega (arith, count, c.requires.first);

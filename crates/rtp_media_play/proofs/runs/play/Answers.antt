@@ -2,11 +2,12 @@ use Rattle.std.proofs.Common.{◌≡◌, ℕ, List, map, refl, sym, ◌∙◌, a
 use Rattle.rtp_media_schedules.specs.Hearing.{Answer, handed_out}
 use Rattle.rtp_media_schedules.specs.SentSamples.{timed_unit}
 use Rattle.rtp_media_schedules.specs.Legal.{IsLegal}
-use Rattle.rtp_media_streams.specs.Sending.{datagrams_of}
 use Rattle.rtp_media_ends.specs.Ends.{receiver_at, sender_at}
+use Rattle.rtp_media_play.specs.Pushing.{AtEvent}
 use Rattle.rtp_media_play.specs.Runs.{IsTameSchedule, canonical_of}
-use Rattle.rtp_media_play.specs.Schedules.{played, poll_answers}
+use Rattle.rtp_media_play.specs.Schedules.{Source, played, poll_answers, source_of}
 use Rattle.rtp_media_play.proofs.Isolated.{isolated}
+use Rattle.rtp_media_play.proofs.Plays.{pushed-repairs, pushed-some, pushed-source}
 use Rattle.rtp_media_play.proofs.WholeRuns.{exact-run, legal-run}
 use Rattle.std.proofs.Common.{arith}
 use Rattle.std.proofs.lemmas.Grind.{common_steps}
@@ -14,22 +15,22 @@ use Rattle.rtp_media_play.proofs.runs.play.Goals as goal
 
 pub returns-in-Ok-play_schedule-clause-isolated : goal.returns-in-Ok-play_schedule-clause-isolated
 returns-in-Ok-play_schedule-clause-isolated c = λ found.
-    let sent : c.deref.result.now ≡ datagrams_of (sender_at c.args.a.now c.args.tx) c.args.samples.now =
-    c.deref.ensures.value ∙ c.in-Ok.ensures.sent in
+    let source = pushed-source c.args.a.now _ c.args.tx c.args.samples.now c.deref.result.now c.requires.sender
+    c.in-Ok.ensures.after (c.deref.ensures.value ∙ c.in-Ok.ensures.sent) in
     ap poll_answers (c.in-Ok-play_schedule.ensures.answers
-    ∙ ap (λ (ds : List (List ℕ)). played ds c.args.rx c.args.b.now c.args.schedule.now) sent)
-    ∙ isolated (datagrams_of (sender_at c.args.a.now c.args.tx) c.args.samples.now) c.args.rx
+    ∙ ap (λ (u : Source). played u c.args.rx c.args.b.now c.args.schedule.now) source)
+    ∙ isolated (source_of (sender_at c.args.a.now c.args.tx) c.args.samples.now) c.args.rx
     (receiver_at c.args.b.now c.args.rx) c.args.schedule.now c.args.b.now (record { same = refl; known = found })
 
 pub returns-in-Ok-play_schedule-clause-legal : goal.returns-in-Ok-play_schedule-clause-legal
 returns-in-Ok-play_schedule-clause-legal c = λ holding hears sane.
-    let sent : c.deref.result.now ≡ datagrams_of (sender_at c.args.a.now c.args.tx) c.args.samples.now =
-    c.deref.ensures.value ∙ c.in-Ok.ensures.sent in
+    let source = pushed-source c.args.a.now _ c.args.tx c.args.samples.now c.deref.result.now c.requires.sender
+    c.in-Ok.ensures.after (c.deref.ensures.value ∙ c.in-Ok.ensures.sent) in
     let all : poll_answers c.in-Ok-play_schedule.all.items
-    ≡ poll_answers (played (datagrams_of (sender_at c.args.a.now c.args.tx) c.args.samples.now) c.args.rx
+    ≡ poll_answers (played (source_of (sender_at c.args.a.now c.args.tx) c.args.samples.now) c.args.rx
     c.args.b.now c.args.schedule.now) =
     ap poll_answers (c.in-Ok-play_schedule.ensures.answers
-    ∙ ap (λ (ds : List (List ℕ)). played ds c.args.rx c.args.b.now c.args.schedule.now) sent) in
+    ∙ ap (λ (u : Source). played u c.args.rx c.args.b.now c.args.schedule.now) source) in
     subst (λ (os : List Answer). IsLegal (canonical_of (sender_at c.args.a.now c.args.tx) c.args.samples.now) os)
     (sym all)
     (legal-run c.codec_law.ensures.codec_in_forms c.args.b.now c.args.rx holding (sender_at c.args.a.now c.args.tx)
@@ -37,13 +38,13 @@ returns-in-Ok-play_schedule-clause-legal c = λ holding hears sane.
 
 pub returns-in-Ok-play_schedule-clause-exact : goal.returns-in-Ok-play_schedule-clause-exact
 returns-in-Ok-play_schedule-clause-exact c = λ holding hears tame.
-    let sent : c.deref.result.now ≡ datagrams_of (sender_at c.args.a.now c.args.tx) c.args.samples.now =
-    c.deref.ensures.value ∙ c.in-Ok.ensures.sent in
+    let source = pushed-source c.args.a.now _ c.args.tx c.args.samples.now c.deref.result.now c.requires.sender
+    c.in-Ok.ensures.after (c.deref.ensures.value ∙ c.in-Ok.ensures.sent) in
     let all : poll_answers c.in-Ok-play_schedule.all.items
-    ≡ poll_answers (played (datagrams_of (sender_at c.args.a.now c.args.tx) c.args.samples.now) c.args.rx
+    ≡ poll_answers (played (source_of (sender_at c.args.a.now c.args.tx) c.args.samples.now) c.args.rx
     c.args.b.now c.args.schedule.now) =
     ap poll_answers (c.in-Ok-play_schedule.ensures.answers
-    ∙ ap (λ (ds : List (List ℕ)). played ds c.args.rx c.args.b.now c.args.schedule.now) sent) in
+    ∙ ap (λ (u : Source). played u c.args.rx c.args.b.now c.args.schedule.now) source) in
     ap (λ (os : List Answer). map timed_unit (handed_out os)) all
     ∙ exact-run c.codec_law.ensures.codec_in_forms c.args.b.now c.args.rx holding (sender_at c.args.a.now c.args.tx)
     c.args.samples.now hears c.args.schedule.now
@@ -53,8 +54,8 @@ returns-in-Ok-play_schedule-clause-exact c = λ holding hears tame.
 pub returns-in-Err-clause-accepted : goal.returns-in-Err-clause-accepted
 returns-in-Err-clause-accepted c = grind (arith, common_steps)
 
-pub returns-in-Err-clause-pushed : goal.returns-in-Err-clause-pushed
-returns-in-Err-clause-pushed c = grind (arith, common_steps)
+pub returns-in-Err-clause-repaired : goal.returns-in-Err-clause-repaired
+returns-in-Err-clause-repaired c = grind (arith, common_steps)
 
 pub returns-in-Err-clause-answers : goal.returns-in-Err-clause-answers
 returns-in-Err-clause-answers c = grind (arith, common_steps)
@@ -83,8 +84,11 @@ returns-in-Err-clause-exact c = grind (arith, common_steps)
 pub returns-in-Ok-play_schedule-clause-accepted : goal.returns-in-Ok-play_schedule-clause-accepted
 returns-in-Ok-play_schedule-clause-accepted c = grind (arith, common_steps)
 
-pub returns-in-Ok-play_schedule-clause-pushed : goal.returns-in-Ok-play_schedule-clause-pushed
-returns-in-Ok-play_schedule-clause-pushed c = grind (arith, common_steps)
+pub returns-in-Ok-play_schedule-clause-repaired : goal.returns-in-Ok-play_schedule-clause-repaired
+returns-in-Ok-play_schedule-clause-repaired c =
+    c.in-Ok-play_schedule.ensures.repaired
+    ∙ pushed-repairs c.args.a.now _ c.args.tx c.args.samples.now c.deref.result.now c.requires.sender
+    c.in-Ok.ensures.after (c.deref.ensures.value ∙ c.in-Ok.ensures.sent) c.args.schedule.now
 
 pub returns-in-Ok-play_schedule-clause-answers : goal.returns-in-Ok-play_schedule-clause-answers
 returns-in-Ok-play_schedule-clause-answers c = grind (arith, common_steps)
@@ -104,8 +108,8 @@ returns-in-Ok-play_schedule-clause-memory c = grind (arith, common_steps)
 pub returns-clause-accepted : goal.returns-clause-accepted
 returns-clause-accepted c = grind (arith, common_steps)
 
-pub returns-clause-pushed : goal.returns-clause-pushed
-returns-clause-pushed c = grind (arith, common_steps)
+pub returns-clause-repaired : goal.returns-clause-repaired
+returns-clause-repaired c = grind (arith, common_steps)
 
 pub returns-clause-answers : goal.returns-clause-answers
 returns-clause-answers c = grind (arith, common_steps)
@@ -120,7 +124,10 @@ pub returns-clause-unplayed : goal.returns-clause-unplayed
 returns-clause-unplayed c = grind (arith, common_steps)
 
 pub returns-clause-memory : goal.returns-clause-memory
-returns-clause-memory c = grind (arith, common_steps)
+returns-clause-memory c = λ _. AtEvent c.in-Ok.ensures.accepted
+    (pushed-some c.args.a.now _ c.args.tx c.args.samples.now c.deref.result.now c.requires.sender
+    c.in-Ok.ensures.after (c.deref.ensures.value ∙ c.in-Ok.ensures.sent) c.args.rx c.args.b.now c.args.schedule.now _ _
+    c.in-Err-play_schedule.ensures.some)
 
 pub returns-clause-isolated : goal.returns-clause-isolated
 returns-clause-isolated c = grind (arith, common_steps)

@@ -1,6 +1,7 @@
 use Rattle.std.proofs.Common.{◌≡◌, ◌∙◌, ap, sym, IfOk, OnOk, List, ℕ, Option, Some, Result, Ok, Err, option_to_list}
 use Rattle.rtp_media_ends.specs.Ends.{EndState}
-use Rattle.rtp_media_play.specs.Schedules.{after_bytes, after_event, answers_to, verdicts_on}
+use Rattle.rtp_media_play.specs.Pushing.{source_at}
+use Rattle.rtp_media_play.specs.Schedules.{Source, after_bytes, after_event, answers_to, verdicts_on}
 use Rattle.rtp_media_play.specs.declared.schedule.Played.{Played}
 use Rattle.rtp_media_play.proofs.Plays.{get-none, get-some}
 use Rattle.rtp_media_play.proofs.runs.play_event.Goals as goal
@@ -20,8 +21,9 @@ returns-in-Some-clause-answer c =
     let at = get-some c.args.datagrams.now c.in-Arrive.k c.in-Some.datagram.now c.in-Some.ensures.lookup.3.0
     c.in-Some.ensures.lookup.1 in
     one _ _ _
-    (ap (λ (o : Option (List ℕ)). verdicts_on c.args.end.now o) (ap Some c.as_slice.ensures ∙ sym at)
-    ∙ ap (answers_to c.args.datagrams.now c.args.rx c.args.end.now) (sym c.in-Arrive.is))
+    (ap (λ (o : Option (List ℕ)). verdicts_on c.args.b.now o) (ap Some c.as_slice.ensures ∙ sym at)
+    ∙ ap (answers_to (source_at c.args.a.now c.args.tx c.args.datagrams.now) c.args.rx
+    c.args.b.now) (sym c.in-Arrive.is))
     c.receive.ensures.answer
 
 pub returns-in-Some-clause-after : goal.returns-in-Some-clause-after
@@ -29,18 +31,21 @@ returns-in-Some-clause-after c =
     let at = get-some c.args.datagrams.now c.in-Arrive.k c.in-Some.datagram.now c.in-Some.ensures.lookup.3.0
     c.in-Some.ensures.lookup.1 in
     becomes _ _ _ _
-    (ap (λ (o : Option (List ℕ)). after_bytes c.args.end.now o) (ap Some c.as_slice.ensures ∙ sym at)
-    ∙ ap (after_event c.args.datagrams.now c.args.rx c.args.end.now) (sym c.in-Arrive.is))
+    (ap (λ (o : Option (List ℕ)). after_bytes c.args.b.now o) (ap Some c.as_slice.ensures ∙ sym at)
+    ∙ ap (after_event (source_at c.args.a.now c.args.tx c.args.datagrams.now) c.args.rx
+    c.args.b.now) (sym c.in-Arrive.is))
     c.receive.ensures.after
 
 pub returns-in-None-clause-answer : goal.returns-in-None-clause-answer
 returns-in-None-clause-answer c =
     let at = get-none c.args.datagrams.now c.in-Arrive.k c.in-None.ensures.lookup.3 in
-    ap (λ (o : Option (List ℕ)). verdicts_on c.args.end.now o) (sym at)
-    ∙ ap (answers_to c.args.datagrams.now c.args.rx c.args.end.now) (sym c.in-Arrive.is)
+    ap (λ (o : Option (List ℕ)). verdicts_on c.args.b.now o) (sym at)
+    ∙ ap (answers_to (source_at c.args.a.now c.args.tx c.args.datagrams.now) c.args.rx
+    c.args.b.now) (sym c.in-Arrive.is)
 
 pub returns-in-None-clause-after : goal.returns-in-None-clause-after
 returns-in-None-clause-after c =
     let at = get-none c.args.datagrams.now c.in-Arrive.k c.in-None.ensures.lookup.3 in
-    ap (λ (o : Option (List ℕ)). after_bytes c.args.end.now o) (sym at)
-    ∙ ap (after_event c.args.datagrams.now c.args.rx c.args.end.now) (sym c.in-Arrive.is)
+    ap (λ (o : Option (List ℕ)). after_bytes c.args.b.now o) (sym at)
+    ∙ ap (after_event (source_at c.args.a.now c.args.tx c.args.datagrams.now) c.args.rx
+    c.args.b.now) (sym c.in-Arrive.is)
