@@ -1,5 +1,5 @@
-"""A sending stream and a receiving one, after the definitions of whole runs and the standards: datagrams of samples, the numbers
-and the window of a receiver (RFC 3550 A.1, RFC 3711 3.3.2), and its buffer."""
+"""A sending stream and a receiving one, after the definitions of whole runs and the standards: datagrams of samples,
+the numbers and the window of a receiver (RFC 3550 A.1, RFC 3711 3.3.2), and its buffer."""
 
 from collections import Counter
 from dataclasses import dataclass
@@ -35,6 +35,8 @@ class Sender:
         self.distances = [int(word) for word in distances.split(",")] if case.red else None
         self.packer = PACKERS.get(case.codec, Pieces)(case, limit - int(case.red), picture)
         self.kept, self.canonical = [], []
+        # how many repairs were made, and the most bytes of a datagram
+        self.repairs, self.most = 0, 1400
 
     def push(self, time, sample):
         """The datagrams of a sample. TIME counts at the row's clock, its low 32 bits at that of RTP are sent."""
@@ -51,6 +53,19 @@ class Sender:
                 self.canonical.append(Canonical(first, len(open_units), ticks, parts))
                 open_units = []
         return sent
+
+    def can_repair(self, datagram):
+        return len(datagram.bytes) + 2 <= self.most
+
+    def repair(self, datagram):
+        """The datagram under SSRC 45, type 97 and the next number of repairs, its own number behind the header; none
+        where that passes the limit (RFC 4588 4)."""
+        if not self.can_repair(datagram):
+            return None
+        text, size = datagram.bytes, header_size(datagram.bytes)
+        number, self.repairs = self.repairs % 65536, self.repairs + 1
+        head = bytes([text[0], text[1] & 128 | 97]) + number.to_bytes(2, "big") + text[4:8] + (45).to_bytes(4, "big")
+        return head + text[12:size] + text[2:4] + text[size:]
 
     def header(self, packet, ticks):
         """RFC 3550 5.1: V, P, X, CC; M, type; number, timestamp, SSRC."""
@@ -98,8 +113,8 @@ def primary(payload):
     return payload[1 + sum(lengths) :]
 
 
-def payload_of(text):
-    """What a datagram of the stream brings behind its header, or nothing where it is damaged."""
+def unpadded(text):
+    """What stands behind the header, without padding; nothing where that doesn't fit (RFC 3550 5.1)."""
     payload = text[header_size(text) :]
     if text[0] & 32:
         # the last byte says how many bytes of padding there are, itself among them
@@ -107,6 +122,14 @@ def payload_of(text):
         if not 0 < count <= len(payload):
             return None
         payload = payload[: len(payload) - count]
+    return payload
+
+
+def payload_of(text):
+    """What a datagram of the stream brings behind its header, or nothing where it is damaged."""
+    payload = unpadded(text)
+    if payload is None:
+        return None
     return (primary(payload) if text[1] & 127 == 63 else payload) or None
 
 
@@ -118,6 +141,8 @@ class Receiver:
         self.hold_back, self.most, self.greatest, self.taken = hold_back, most, None, set()
         self.held, self.cutoff, self.units, self.counts = {}, None, [], Counter()
         self.has_dropped = False
+        # the SSRC and type of repairs, where there are any
+        self.repairs = None
 
     def said(self, reply):
         self.counts[reply.split()[0]] += 1
@@ -127,6 +152,8 @@ class Receiver:
         """Bytes that the sender didn't send, which may bring a payload."""
         if header_size(text) is None:
             return self.said("unreadable")
+        if (int.from_bytes(text[8:12], "big"), text[1] & 127) == self.repairs:
+            return self.repaired(text)
         if text[1] & 127 not in self.types or text[8:12] != bytes([0, 0, 0, 44]):
             return self.said("foreign")
         payload = payload_of(text)
@@ -135,6 +162,15 @@ class Receiver:
         packet = Packet(payload, text[1] > 127, False, [])
         low, time = int.from_bytes(text[2:4], "big"), int.from_bytes(text[4:8], "big")
         return self.arrive(Datagram(low, time, packet, text))
+
+    def repaired(self, text):
+        """A repair, which brings the payload behind its two bytes, under their number (RFC 4588 4)."""
+        payload = unpadded(text)
+        if payload is None or len(payload) < 3:
+            return self.said("damaged")
+        packet = Packet(payload[2:], text[1] > 127, False, [])
+        number, time = int.from_bytes(payload[:2], "big"), int.from_bytes(text[4:8], "big")
+        return self.arrive(Datagram(number, time, packet, text))
 
     def widened(self, low):
         """The number with these 16 bits that is nearest to the greatest; of two as near the one of its 65,536."""

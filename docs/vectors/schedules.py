@@ -9,16 +9,17 @@ PROGRAM is a built `rtpexplain`; without one `rt try` runs it. A run is a pair o
 a `play` of them: of every codec one that is tame, one that is sane, and one that is neither. Behind it two more
 samples, or ten with redundancy, are sent and received line by line.
 
-All replies are worked out here, from the standards and the definitions of whole runs, by no code of the project: the texts of
-offer and answer, the payloads of each sample (the layouts are those of `payloads.py`, `h26x.py` and `av1.py`; which
-picture id or decoding order number stands in a packet, which parameter sets wait and what redundancy a packet has is
-worked out in `packers.py` and `ends.py`) and the headers before them, the receiver's numbers and window, its buffer,
-and the bytes of each unit, as `readers.py` reads them. The model asserts of itself that a tame run gives every unit,
-and a sane one a legal selection. To sane runs come datagrams of the stream that are damaged, which change nothing, and
-one run of many short packets has leaps over nearly 32,768 numbers past 65,536; in two, which are drawn to be compared
-alone, more than 4,096 packets wait. To the third run of each codec come datagrams under the stream's SSRC and types
-that it didn't send, with any numbers and payloads. What is never made: header extensions that are agreed on, and forms
-for browsers.
+All replies are worked out here, from the standards and the definitions of whole runs, by no code of the project: the
+texts of offer and answer, the payloads of each sample (the layouts are those of `payloads.py`, `h26x.py` and `av1.py`;
+which picture id or decoding order number stands in a packet, which parameter sets wait and what redundancy a packet
+has is worked out in `packers.py` and `ends.py`) and the headers before them, the receiver's numbers and window, its
+buffer, and the bytes of each unit, as `readers.py` reads them. The model asserts of itself that a tame run gives every
+unit, and a sane one a legal selection. To sane runs come datagrams of the stream that are damaged, which change
+nothing, and one run of many short packets has leaps over nearly 32,768 numbers past 65,536; in two, which are drawn to
+be compared alone, more than 4,096 packets wait. To the third run of each codec come datagrams under the stream's SSRC
+and types that it didn't send, with any numbers and payloads. Of each video codec a tame and a sane run follow in which
+some datagrams come as repairs (RFC 4588), again or in place of what was sent: some that would pass the limit, and some
+of places past the list. What is never made: header extensions that are agreed on, and forms for browsers.
 """
 
 import random
@@ -39,6 +40,7 @@ REASONS = {
     "refused": "its number came before, or is 1,024 or more below the greatest",
     "foreign": "no receiving stream has this SSRC and payload type",
     "unreadable": "no RTP header stands in front",
+    "refused LimitTooSmall": "MTU and a header with all values pass LIMIT, or a repair's two bytes more do",
     "damaged": "its padding or its redundancy can't be read, or its payload is empty or of another type",
     "fault Payload": "a packet of the frame isn't of its format; the frame is done with",
 }
@@ -91,10 +93,11 @@ def feedback(case):
     return ["transport-cc"] + (["goog-remb", "ccm fir", "nack", "nack pli"] if case.kind == "video" else [])
 
 
-def session_text(case, number, ssrc):
-    """The lines of an offer or answer with one section of one row (docs/SESSION_TEXTS.md)."""
+def session_text(case, number, ssrc, repair=None):
+    """The lines of an offer or answer with one section of one row (docs/SESSION_TEXTS.md), where `repair` repairs
+    `ssrc` (RFC 4588 8.3 and 8.6, RFC 5576 4.2)."""
     channels = f"/{case.channels}" if case.channels != "-" else ""
-    types = "111 63" if case.red else "111"
+    types = "111 63" if case.red else "111 97" if repair else "111"
     yield from ["v=0", f"o=str0m-0.25.0 {number} 2 IN IP4 0.0.0.0", "s=-", "t=0 0", "a=group:BUNDLE 0"]
     yield from [f"m={case.kind} 9 UDP/TLS/RTP/SAVPF {types}", "c=IN IP4 0.0.0.0", "a=mid:0", "a=sendrecv"]
     yield f"a=rtpmap:111 {case.codec}/{case.rtp_clock}{channels}"
@@ -103,21 +106,24 @@ def session_text(case, number, ssrc):
         yield f"a=fmtp:111 {case.fmtp}"
     if case.red:
         yield from [f"a=rtpmap:63 red/{case.rtp_clock}{channels}", "a=fmtp:63 111/111"]
-    yield f"a=ssrc:{ssrc} cname:str0m"
+    if repair:
+        yield from [f"a=rtpmap:97 rtx/{case.rtp_clock}", "a=fmtp:97 apt=111", f"a=ssrc-group:FID {ssrc} {repair}"]
+    yield from [f"a=ssrc:{number} cname:str0m" for number in (ssrc, repair) if number]
 
 
-def agree(page, case):
-    """Lines that make two ends, and have them agree."""
+def agree(page, case, sources=((44,), (45,))):
+    """Lines that make two ends, and have them agree, each with a source, and one that repairs it where there is."""
     told = {}
+    repair_type = 97 if len(sources[0]) > 1 else "-"
     for end, number in ("a", 1), ("b", 2):
-        page.line(f"row {end} 111 - {63 if case.red else '-'} {case.row}", "ok")
+        page.line(f"row {end} 111 {repair_type} {63 if case.red else '-'} {case.row}", "ok")
         told[end] = Told(end)
         page.make(end, f"end {end} {number}", told[end])
-    section = f"0:{case.kind}:sendrecv"
     texts = []
-    for number, ssrc in (1, 44), (2, 45):
-        texts += ["text", *[f"  {line}" for line in session_text(case, number, ssrc)]]
-    page.line(f"connect {section}:44 / {section}:45", *texts)
+    for number, of_end in enumerate(sources, 1):
+        texts += ["text", *[f"  {line}" for line in session_text(case, number, *of_end)]]
+    sections = [f"0:{case.kind}:sendrecv:{'+'.join(map(str, of_end))}" for of_end in sources]
+    page.line(f"connect {' / '.join(sections)}", *texts)
     return told
 
 
@@ -268,6 +274,26 @@ def far_items(draw, count):
             yield "p"
 
 
+def damaged_repair(draw):
+    """A repair of the stream that wraps no payload, or whose padding doesn't fit (RFC 4588 4)."""
+    first, payload = draw.choice([(0x80, draw.randbytes(draw.randrange(3))), (0xA0, draw.randbytes(3) + bytes([9]))])
+    return bytes([first, draw.choice([97, 225])]) + draw.randbytes(6) + (45).to_bytes(4, "big") + payload
+
+
+def repaired(draw, sent, tx, items):
+    """The same with repairs in place of some datagrams, behind others, and of places past the list."""
+    for item in items:
+        if not isinstance(item, int):
+            yield item
+            continue
+        if draw.randrange(2) and tx.can_repair(sent[item]):
+            yield "r", item
+        else:
+            yield item
+        if draw.randrange(6) == 0:
+            yield draw.choice([("r", item), ("r", item), ("r", len(sent) + draw.randrange(3)), damaged_repair(draw)])
+
+
 def play(page, tx, rx, samples, items):
     """The line of a schedule, with polls until two in a row answer None at the end."""
     for time, sample in samples:
@@ -284,6 +310,11 @@ def play(page, tx, rx, samples, items):
             step("p", rx.poll())
         elif isinstance(item, bytes):
             step(f"f{item.hex()}", rx.other(item))
+        elif isinstance(item, tuple):
+            place = item[1]
+            words.append(f"r{place}")
+            if place < len(sent):
+                replies.append(rx.arrive(sent[place]) if tx.repair(sent[place]) else "refused LimitTooSmall")
         else:
             step(f"a{item}", rx.arrive(sent[item]))
     while replies[-2:] != ["none", "none"]:
@@ -300,6 +331,48 @@ def by_lines(page, told, tx, rx, samples):
         for datagram in sent:
             page.line(f"receive b {datagram.bytes.hex()}", rx.arrive(datagram))
             page.line("poll b 0", rx.poll())
+
+
+def by_repairs(page, told, tx, rx, samples):
+    """Datagrams line by line, each with its repair behind it or before it."""
+    for time, sample in samples:
+        sent = tx.push(time, sample)
+        page.line(f"sample a 0 {time} {sample.bytes.hex()}", *[f"datagram {d.bytes.hex()}" for d in sent], "ok")
+        told["a"].printed += len(sent)
+        for place, datagram in enumerate(sent):
+            repair = tx.repair(datagram)
+            answer = f"datagram {repair.hex()}" if repair else "refused LimitTooSmall"
+            page.line(f"repair a 0 {datagram.bytes.hex()}", answer)
+            ways = [datagram.bytes, repair] if place % 2 else [repair, datagram.bytes]
+            told["a"].printed += bool(repair)
+            for bytes_ in filter(None, ways):
+                reply = rx.arrive(datagram)
+                page.line(f"receive b {bytes_.hex()}", reply)
+                # which stream refused a repair isn't seen at its lines
+                rx.counts["refused"] -= reply == "refused" and bytes_ == repair
+            page.line("poll b 0", rx.poll())
+
+
+def repaired_run(page, case, kind, seed, size):
+    draw = random.Random(f"{case.name} repaired {kind} {seed}")
+    page.line("")
+    page.line(f"# {case.name}, {kind} with repairs, seed {seed}")
+    told = agree(page, case, ((44, 45), (46, 47)))
+    tx, rx = Sender(case, draw.randrange(32768), draw.randint(*case.limits), "-", "-"), Receiver(case, 1023)
+    tx.most, rx.repairs = 12 + tx.limit + draw.choice([0, 1, 2, 40]), (45, 97)
+    page.line(f"send a 0 44 111 {tx.number} {tx.limit} {tx.most} - -", "sender 0")
+    page.line("open b 0 44 111 1023", "receiver 0")
+    told["a"].tx, told["b"].rx = tx, rx
+    samples = draw_samples(draw, case, int(case.count * size) + 2)
+
+    def items(sent):
+        if kind == "sane":
+            return repaired(draw, sent, tx, sane_items(draw, case, len(sent)))
+        return repaired(draw, sent, tx, tame_items(draw, len(sent), tx.canonical[0].size, False))
+
+    play(page, tx, rx, samples[:-2], items)
+    check(tx.canonical, rx.units, kind == "tame")
+    by_repairs(page, told, tx, rx, samples[-2:])
 
 
 def run(page, case, kind, seed, size):
@@ -367,6 +440,9 @@ def runs(page, seeds, size=1.0, is_stored=False):
         for case in CASES:
             for kind in ("tame", "sane", "wild"):
                 run(page, case, kind, seed, size)
+        for case in CASES:
+            for kind in ("tame", "sane") if case.kind == "video" else ():
+                repaired_run(page, case, kind, seed, size)
         far_run(page, seed)
         for kind in () if is_stored else ("tame", "sane"):
             held_run(page, seed, kind)

@@ -6,6 +6,8 @@ use Rattle.rtp_media_ends.specs.declared.OpenError.{OpenError}
 use Rattle.rtp_media_ends.specs.declared.OpenError.TheVariants as open_error
 use Rattle.rtp_media_streams.specs.declared.errors.SampleError.{SampleError}
 use Rattle.rtp_media_streams.specs.declared.errors.SampleError.TheVariants as sample_error
+use Rattle.rtp_media_streams.specs.declared.errors.RepairError.{RepairError}
+use Rattle.rtp_media_streams.specs.declared.errors.RepairError.TheVariants as repair_error
 use Rattle.rtp_media_streams.specs.declared.errors.PollFault.{PollFault}
 use Rattle.rtp_media_streams.specs.declared.errors.PollFault.TheVariants as poll_fault
 use Rattle.rtp_media.specs.Replies.{memory}
@@ -31,6 +33,12 @@ sample_error_name sample_error.TimeTooLarge = codes "TimeTooLarge"
 sample_error_name sample_error.LimitTooSmall = codes "LimitTooSmall"
 sample_error_name (sample_error.Payload error) = codes "Payload"
 sample_error_name sample_error.Memory = memory
+
+abbrev pub repair_error_name : RepairError → List ℕ
+repair_error_name repair_error.NoRepair = codes "NoRepair"
+repair_error_name repair_error.NotOwn = codes "NotOwn"
+repair_error_name repair_error.LimitTooSmall = codes "LimitTooSmall"
+repair_error_name repair_error.Memory = memory
 
 abbrev pub fault_name : PollFault → List ℕ
 fault_name (poll_fault.Payload error) = codes "Payload"

@@ -1,5 +1,7 @@
 -- What the program answers to the commands that exchange texts.
-use Rattle.std.specs.Prelude.{ℕ, ◌≡◌, ◌⊎◌, if◌then◌else◌, is_some, List}
+use Rattle.std.specs.Prelude.{ℕ, ◌≡◌, ◌⊎◌, ◌&&◌, if◌then◌else◌, is_some, List}
+use Rattle.std.specs.List.{filter_map}
+use Rattle.std.specs.Option.{option_map}
 use Rattle.std.specs.Prelude.{[], ◌∷◌, map, Option, Some, None}
 use Rattle.std.specs.Str.{is_utf8}
 use Rattle.rtp_wire.specs.Name.{name_of}
@@ -9,23 +11,39 @@ use Rattle.rtp_media_ends.specs.Exchanges.{with_offer}
 use Rattle.rtp_media_ends.specs.Offers.{Accepts, Answers, offer_of}
 use Rattle.rtp_media_ends.specs.Refusals.{MayAccept, MayAnswer, Refuses, RefusesAccept, RefusesAnswer}
 use Rattle.rtp_media_ends.specs.Refusals.{refusal_of_offer}
-use Rattle.rtp_media_ends.specs.Sections.{Wanted}
+use Rattle.rtp_media_ends.specs.Sections.{Wanted, are_sound}
 use Rattle.rtp_media_ends.specs.Connections.{Connects, IsRefused, offering}
 use Rattle.rtp_media_ends.specs.Ends.{EndState, with_exchange}
 use Rattle.rtp_media_ends.specs.Stops.{Where}
 use Rattle.rtp_media_lines.specs.declared.ConnectCommand.{ConnectCommand}
 use Rattle.rtp_media_lines.specs.declared.sections.SectionWord.{SectionWord}
+use Rattle.rtp_media_lines.specs.declared.sections.SourceWord.{SourceWord}
 use Rattle.rtp_media_lines.specs.declared.reply.Reply.{Reply}
 use Rattle.rtp_media_lines.specs.declared.reply.Reply.TheVariants as reply
 use Rattle.rtp_media.specs.Replies.{Prints}
 use Rattle.rtp_media.specs.ExchangeErrorNames.{exchange_error_name}
 
+-- The pair of a source that another one repairs.
+abbrev pub pair_of : SourceWord → Option (ℕ × ℕ)
+pair_of s = option_map (λ repair. (s.ssrc, repair)) s.repair
+
 -- The section that a word names.
 abbrev pub wanted_of : SectionWord → Wanted
-wanted_of s = record { mid = name_of 16 s.mid; kind = s.kind; dir = s.direction; ssrcs = s.ssrcs }
+wanted_of s = record {
+  mid = name_of 16 s.mid;
+  kind = s.kind;
+  dir = s.direction;
+  ssrcs = map (λ source. source.ssrc) s.sources;
+  repairs = filter_map pair_of s.sources;
+}
 
 abbrev pub wanted_in : List SectionWord → List Wanted
 wanted_in sections = map wanted_of sections
+
+-- The repairs of a line's sections must fit their sources.
+abbrev pub WithSound : List Wanted → EndState → EndState → List Reply → Type 0 → Type 0
+WithSound sections e after replies answers =
+    Where (are_sound sections) answers ((after ≡ e) × Prints replies reply.ErrorLine)
 
 -- An offer's text is printed, where nothing refuses it.
 pub record PrintsOffer (e : EndState) (sections : List Wanted) (after : EndState) (replies : List Reply) : Type 0 where
@@ -44,9 +62,9 @@ pub record PrintsRefusal (e after : EndState) (names : ExchangeError → Type 0)
 
 -- offer E SECTION..
 abbrev pub AnswersOffer : EndState → List Wanted → EndState → List Reply → Type 0
-AnswersOffer e sections after replies =
-    PrintsOffer e sections after replies ⊎ PrintsRefusal e after
-    (λ error. Refuses error (refusal_of_offer e.exchange sections)) replies
+AnswersOffer e sections after replies = WithSound sections e after replies
+    (PrintsOffer e sections after replies ⊎ PrintsRefusal e after
+    (λ error. Refuses error (refusal_of_offer e.exchange sections)) replies)
 
 -- An answer's text is printed, where nothing refuses it.
 pub record PrintsAnswer (e : EndState) (text : List ℕ) (sections : List Wanted) (after : EndState)
@@ -59,9 +77,9 @@ pub record PrintsAnswer (e : EndState) (text : List ℕ) (sections : List Wanted
 
 -- answer E HEX SECTION..
 abbrev pub AnswersAnswer : EndState → List ℕ → List Wanted → EndState → List Reply → Type 0
-AnswersAnswer e text sections after replies =
-    PrintsAnswer e text sections after replies
-    ⊎ PrintsRefusal e after (RefusesAnswer e.exchange text sections) replies
+AnswersAnswer e text sections after replies = WithSound sections e after replies
+    (PrintsAnswer e text sections after replies
+    ⊎ PrintsRefusal e after (RefusesAnswer e.exchange text sections) replies)
 
 -- An answer is accepted, where nothing refuses it.
 pub record PrintsAccept (e : EndState) (text : List ℕ) (after : EndState) (replies : List Reply) : Type 0 where
@@ -98,9 +116,10 @@ pub record PrintsNeither (a b : EndState) (sections_a sections_b : List Wanted) 
 
 -- connect SECTION.. / SECTION..
 abbrev pub AnswersConnect : EndState → EndState → List Wanted → List Wanted → EndState → EndState → List Reply → Type 0
-AnswersConnect a b sections_a sections_b after_a after_b replies =
-    PrintsBoth a b sections_a sections_b after_a after_b replies
-    ⊎ PrintsNeither a b sections_a sections_b after_a after_b replies
+AnswersConnect a b sections_a sections_b after_a after_b replies = Where (are_sound sections_a && are_sound sections_b)
+    (PrintsBoth a b sections_a sections_b after_a after_b replies
+    ⊎ PrintsNeither a b sections_a sections_b after_a after_b replies)
+    ((after_a ≡ a) × (after_b ≡ b) × Prints replies reply.ErrorLine)
 
 -- Both ends are connected, where both are there.
 abbrev pub ConnectsEnds : Option EndState → Option EndState → ConnectCommand → Option EndState → Option EndState

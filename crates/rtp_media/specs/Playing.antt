@@ -1,13 +1,13 @@
 -- What the program answers to the commands of whole runs.
 use Rattle.std.specs.Prelude.{ℕ, ◌≡◌, ◌≢◌, ◌⊎◌, ◌&&◌, List, [], map, Option, Some, None, Ok, Err}
 use Rattle.rtp_wire.specs.Values.{absent}
-use Rattle.rtp_media_streams.specs.Sending.{Sample, datagrams_of}
+use Rattle.rtp_media_streams.specs.Sending.{Sample}
 use Rattle.rtp_media_streams.specs.declared.errors.PollFault.TheVariants as poll_fault
 use Rattle.rtp_media_streams.specs.declared.errors.SampleError.{SampleError}
 use Rattle.rtp_media_streams.specs.declared.errors.SampleError.TheVariants as sample_error
 use Rattle.rtp_media_play.specs.Ends.{EndState, is_receiver_at, is_sender_at, sender_at}
-use Rattle.rtp_media_play.specs.Pushing.{IsCutShort, IsRefusedAt, after_pushes, refusal_of_samples}
-use Rattle.rtp_media_play.specs.Schedules.{after_schedule, played}
+use Rattle.rtp_media_play.specs.Pushing.{IsCutShort, IsRefusedAt, after_repairs, refusal_of_samples}
+use Rattle.rtp_media_play.specs.Schedules.{after_schedule, played, source_of}
 use Rattle.rtp_media_play.specs.declared.schedule.Event.{Event}
 use Rattle.rtp_media_play.specs.declared.schedule.Event.TheVariants as event
 use Rattle.rtp_media_play.specs.declared.schedule.Played.{Played}
@@ -20,12 +20,13 @@ use Rattle.rtp_media_lines.specs.declared.reply.Reply.{Reply}
 use Rattle.rtp_media_lines.specs.declared.reply.Reply.TheVariants as reply
 use Rattle.rtp_media_play.specs.Stops.{Where}
 use Rattle.rtp_media.specs.Replies.{Prints, memory}
-use Rattle.rtp_media.specs.EndErrorNames.{fault_name, sample_error_name}
+use Rattle.rtp_media.specs.EndErrorNames.{fault_name, repair_error_name, sample_error_name}
 use Rattle.rtp_media.specs.Streams.{unit_reply, verdict_reply}
 
 -- What happens at an item.
 abbrev pub event_of : PlayItem → Event
 event_of (item.Arrive k) = event.Arrive k
+event_of (item.Repair k) = event.Repair k
 event_of (item.Foreign bytes) = event.Foreign bytes
 event_of item.Poll = event.Poll
 
@@ -40,15 +41,17 @@ samples_for a tx queue = map (sample_at (sender_at a tx).row.clock_rate) queue
 -- The line for an answer.
 abbrev pub played_reply : Played → Reply
 played_reply (play_answer.Received verdict) = verdict_reply verdict
+played_reply (play_answer.NotRepaired e) = reply.Refused (repair_error_name e)
 played_reply (play_answer.Polled (Ok unit)) = unit_reply unit
 played_reply (play_answer.Polled (Err e)) = reply.Fault (fault_name (poll_fault.Payload e))
 
 -- All samples are accepted, and a line is printed for each answer.
 abbrev pub PrintsPlayed : EndState → EndState → List Sample → PlayCommand → EndState → EndState → List Reply → Type 0
 PrintsPlayed a b samples c after_a after_b replies =
-    (refusal_of_samples (sender_at a c.tx) samples ≡ None) × (after_a ≡ after_pushes a c.tx samples)
-    × (after_b ≡ after_schedule (datagrams_of (sender_at a c.tx) samples) c.rx b (map event_of c.items))
-    × (replies ≡ map played_reply (played (datagrams_of (sender_at a c.tx) samples) c.rx b (map event_of c.items)))
+    (refusal_of_samples (sender_at a c.tx) samples ≡ None)
+    × (after_a ≡ after_repairs a c.tx (source_of (sender_at a c.tx) samples) (map event_of c.items))
+    × (after_b ≡ after_schedule (source_of (sender_at a c.tx) samples) c.rx b (map event_of c.items))
+    × (replies ≡ map played_reply (played (source_of (sender_at a c.tx) samples) c.rx b (map event_of c.items)))
 
 -- A sample is refused: those before it were sent, and nothing of the schedule happens.
 abbrev pub PrintsRefusal : EndState → EndState → List Sample → PlayCommand → EndState → EndState → List Reply → Type 0

@@ -6,7 +6,7 @@ use Rattle.rtp_media_lines.specs.declared.words.Letter.TheVariants.{A, B}
 use Rattle.rtp_media_lines.specs.declared.Command.{Command}
 use Rattle.rtp_media_lines.specs.declared.Command.TheVariants.{Fixed, Send, Open, Sample, Receive, Poll, Row}
 use Rattle.rtp_media_lines.specs.declared.Command.TheVariants.{Ext, End, Offer, Answer, Accept, Withdraw}
-use Rattle.rtp_media_lines.specs.declared.Command.TheVariants.{Connect, Queue, Play}
+use Rattle.rtp_media_lines.specs.declared.Command.TheVariants.{Connect, Queue, Play, Repair}
 use Rattle.rtp_media_lines.specs.declared.QueueCommand.{QueueCommand}
 use Rattle.rtp_media_lines.specs.declared.reply.Reply.{Reply}
 use Rattle.rtp_media_lines.specs.declared.reply.Reply.TheVariants as reply
@@ -34,6 +34,7 @@ letter_of (Open c) = c.letter
 letter_of (Sample c) = c.letter
 letter_of (Receive c) = c.letter
 letter_of (Poll c) = c.letter
+letter_of (Repair c) = c.letter
 letter_of (Row c) = c.letter
 letter_of (Ext c) = c.letter
 letter_of (End c) = c.letter

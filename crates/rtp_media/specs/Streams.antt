@@ -1,6 +1,6 @@
 -- What the program answers to the commands of streams, from the definitions of their calls.
 use Rattle.std.specs.Prelude.{false, ℕ, ◌≡◌, ◌⊎◌, Bool, IsTrue, if◌then◌else◌, List, [], ◌∷◌, ◌++◌, length, map}
-use Rattle.std.specs.Prelude.{Option, Some, None, Ok, Err}
+use Rattle.std.specs.Prelude.{Option, Some, None, Result, Ok, Err}
 use Rattle.std.specs.Option.{option_map}
 use Rattle.rtp_wire.specs.Name.{name_of}
 use Rattle.rtp_wire_values.specs.Time.{Time}
@@ -10,6 +10,8 @@ use Rattle.rtp_media_schedules.specs.Hearing.{MediaUnit, holding_of, may_hold}
 use Rattle.rtp_media_streams.specs.Polls.{PollResult, poll_result}
 use Rattle.rtp_media_streams.specs.Sending.{sent_datagrams, after_sample, refusal_of_sample}
 use Rattle.rtp_media_streams.specs.Receiving.{polled_receiver}
+use Rattle.rtp_media_streams.specs.Repairing.{repair, with_repair}
+use Rattle.rtp_media_streams.specs.declared.errors.RepairError.{RepairError}
 use Rattle.rtp_media_streams.specs.declared.errors.SampleError.{SampleError}
 use Rattle.rtp_media_ends.specs.declared.OpenError.{OpenError}
 use Rattle.rtp_media_ends.specs.declared.StreamParams.{StreamParams}
@@ -23,16 +25,17 @@ use Rattle.rtp_media_ends.specs.Params.{is_sound_params}
 use Rattle.rtp_media_ends.specs.Stops.{PollStops, SenderFails}
 use Rattle.rtp_media_ends.specs.EndArrivals.{verdict_of, after_datagram}
 use Rattle.rtp_media_lines.specs.declared.Command.{Command}
-use Rattle.rtp_media_lines.specs.declared.Command.TheVariants.{Send, Open, Sample, Receive, Poll}
+use Rattle.rtp_media_lines.specs.declared.Command.TheVariants.{Send, Open, Sample, Receive, Poll, Repair}
 use Rattle.rtp_media_lines.specs.declared.SendCommand.{SendCommand}
 use Rattle.rtp_media_lines.specs.declared.OpenCommand.{OpenCommand}
 use Rattle.rtp_media_lines.specs.declared.SampleCommand.{SampleCommand}
 use Rattle.rtp_media_lines.specs.declared.ReceiveCommand.{ReceiveCommand}
 use Rattle.rtp_media_lines.specs.declared.PollCommand.{PollCommand}
+use Rattle.rtp_media_lines.specs.declared.RepairCommand.{RepairCommand}
 use Rattle.rtp_media_lines.specs.declared.reply.Reply.{Reply}
 use Rattle.rtp_media_lines.specs.declared.reply.Reply.TheVariants as reply
 use Rattle.rtp_media.specs.Replies.{memory}
-use Rattle.rtp_media.specs.EndErrorNames.{fault_name, open_error_name, sample_error_name}
+use Rattle.rtp_media.specs.EndErrorNames.{fault_name, open_error_name, repair_error_name, sample_error_name}
 
 -- An end, and what is printed.
 pub record EndStep : Type 0 where
@@ -131,6 +134,17 @@ poll_step e c =
     (poll_reply (poll_result (receiver_at e c.stream)))
     else prints e reply.ErrorLine
 
+abbrev pub repaired_step : EndState → RepairCommand → Result (List ℕ) RepairError → EndStep
+repaired_step e c (Err error) = prints e (reply.Refused (repair_error_name error))
+repaired_step e c (Ok datagram) =
+    prints (with_sender e c.stream (with_repair (sender_at e c.stream))) (reply.Datagram datagram)
+
+-- repair E N HEX
+abbrev pub repair_step : EndState → RepairCommand → EndStep
+repair_step e c =
+    if is_sender_at e c.stream then repaired_step e c (repair (sender_at e c.stream) c.datagram)
+    else prints e reply.ErrorLine
+
 -- What a command of streams does to the end that it names, and what is printed. The commands that make
 -- ends and exchange texts have definitions of their own.
 abbrev pub step_of : EndState → Command → EndStep
@@ -139,6 +153,7 @@ step_of e (Open c) = open_step e c
 step_of e (Sample c) = sample_step e c
 step_of e (Receive c) = receive_step e c
 step_of e (Poll c) = poll_step e c
+step_of e (Repair c) = repair_step e c
 step_of e command = prints e reply.ErrorLine
 
 -- The end is this, and so are the replies.
@@ -155,6 +170,8 @@ RunsOut e (Sample c) after replies =
 RunsOut e (Receive c) after replies = (after ≡ e) × (replies ≡ reply.Refused memory ∷ [])
 RunsOut e (Poll c) after replies =
     IsTrue (is_receiver_at e c.stream) × PollStops e c.stream after × (replies ≡ reply.Fault memory ∷ [])
+RunsOut e (Repair c) after replies =
+    IsTrue (is_sender_at e c.stream) × (after ≡ e) × (replies ≡ reply.Refused memory ∷ [])
 RunsOut e command after replies = ⊥
 
 -- A command is answered as stated, or its call runs out of memory.

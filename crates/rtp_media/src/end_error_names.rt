@@ -1,10 +1,11 @@
 //! The names under which errors of ends and of streams are printed.
 
 ghost use Rattle.std.specs.Prelude.{◌≡◌};
-ghost use Rattle.rtp_media.specs.EndErrorNames.{end_error_name, fault_name, open_error_name, sample_error_name};
+ghost use Rattle.rtp_media.specs.EndErrorNames.{end_error_name, fault_name, open_error_name, repair_error_name};
+ghost use Rattle.rtp_media.specs.EndErrorNames.{sample_error_name};
 
 use crate::memory_name::memory;
-use rtp_media_ends::{EndError, OpenError, PollFault, SampleError};
+use rtp_media_ends::{EndError, OpenError, PollFault, RepairError, SampleError};
 use rtp_media_lines::ErrorName;
 
 /// The name of a refusal to make an end.
@@ -44,6 +45,18 @@ pub fn sample_error_name(error: SampleError) -> ErrorName
         SampleError::LimitTooSmall => ErrorName::new("LimitTooSmall"),
         SampleError::Payload(_) => ErrorName::new("Payload"),
         SampleError::Memory => memory(),
+    }
+}
+
+/// The name of a refused repair.
+pub(crate) fn repair_error_name(error: RepairError) -> ErrorName
+    ensures { result ≡ repair_error_name error }
+{
+    match error {
+        RepairError::NoRepair => ErrorName::new("NoRepair"),
+        RepairError::NotOwn => ErrorName::new("NotOwn"),
+        RepairError::LimitTooSmall => ErrorName::new("LimitTooSmall"),
+        RepairError::Memory => memory(),
     }
 }
 

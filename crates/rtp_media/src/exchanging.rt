@@ -1,35 +1,66 @@
 //! The commands that exchange texts.
 
-ghost use Rattle.std.specs.Prelude.{◌≡◌, [], ◌∷◌, IfOk, IfSome, IfNone, string_bytes, true, false};
+ghost use Rattle.std.specs.Prelude.{◌≡◌, [], ◌∷◌, IfOk, IfSome, IfNone, map, string_bytes, true, false};
+ghost use Rattle.std.specs.List.{filter_map};
 ghost use Rattle.std.specs.Str.{is_utf8};
 ghost use Rattle.rtp_media.specs.Exchanging.{AnswersAccept, AnswersAnswer, AnswersConnect};
 ghost use Rattle.rtp_media.specs.Exchanging.{AnswersOffer, AnswersWithdraw, ConnectsEnds, WithText};
-ghost use Rattle.rtp_media.specs.Exchanging.{wanted_in, wanted_of};
+ghost use Rattle.rtp_media.specs.Exchanging.{pair_of, wanted_in, wanted_of};
 
 use crate::exchange_error_names::exchange_error_name;
 use crate::replies::one;
-use rtp_media_ends::{End, SectionSpec, connect};
+use rtp_media_ends::{End, SectionSpec, are_sound, connect};
 use rtp_media_lines::{
     AcceptCommand, AnswerCommand, Bytes, ConnectCommand, OfferCommand, Reply, SectionWord,
+    SourceWord,
 };
 use rtp_wire::{Mid, Ssrc};
 use std::alloc::{AllocError, Global};
+
+/// The pair of a source that another one repairs.
+fn pair_of(source: &SourceWord) -> Option<(Ssrc, Ssrc)>
+    ensures { result ≡ pair_of source.now }
+{
+    let repair = source.repair?;
+    Some((Ssrc::from(source.ssrc), Ssrc::from(repair)))
+}
+
+/// The SSRCs of sources.
+fn ssrcs_in(alloc: Global, sources: &[SourceWord]) -> Result<Vec<Ssrc>, AllocError>
+    ensures { IfOk result (λ ssrcs. ssrcs.items ≡ map (λ source. source.ssrc) sources.now) }
+{
+    let ssrcs: Vec<Ssrc> = sources
+        .iter()
+        .map(|source| Ssrc::from(source.ssrc))
+        .collect(alloc)?;
+    Ok(ssrcs)
+}
+
+/// The pairs of the sources that others repair.
+fn repairs_in(alloc: Global, sources: &[SourceWord]) -> Result<Vec<(Ssrc, Ssrc)>, AllocError>
+    ensures { IfOk result (λ pairs. pairs.items ≡ filter_map pair_of sources.now) }
+{
+    let mut pairs = Vec::new(alloc);
+    for source in sources {
+        if let Some(pair) = pair_of(source) {
+            pairs.push(pair)?;
+        }
+    }
+    Ok(pairs)
+}
 
 /// The section that a word names.
 fn wanted_of(alloc: Global, section: &SectionWord) -> Result<SectionSpec, AllocError>
     ensures { IfOk result (λ wanted. wanted ≡ wanted_of section.now) }
 {
-    let ssrcs: Vec<Ssrc> = section
-        .ssrcs
-        .as_slice()
-        .iter()
-        .map(|ssrc| Ssrc::from(*ssrc))
-        .collect(alloc)?;
+    let ssrcs = ssrcs_in(alloc, section.sources.as_slice())?;
+    let repairs = repairs_in(alloc, section.sources.as_slice())?;
     Ok(SectionSpec {
         mid: Mid::from(section.mid.as_str()),
         kind: section.kind,
         dir: section.direction,
         ssrcs,
+        repairs,
     })
 }
 
@@ -44,7 +75,8 @@ fn wanted_in(alloc: Global, sections: &[SectionWord]) -> Result<Vec<SectionSpec>
     Ok(wanted)
 }
 
-/// Asks an end for the text of an offer; a refusal is printed by its name.
+/// Asks an end for the text of an offer: an error line, where the repairs of a section don't fit its sources; a refusal
+/// is printed by its name.
 ///
 /// # Errors
 /// Where memory for sections or replies runs out.
@@ -52,6 +84,9 @@ pub fn offer(alloc: Global, end: &mut End, command: OfferCommand) -> Result<Vec<
     ensures { IfOk result (λ replies. AnswersOffer end.old (wanted_in command.sections) end.new replies.items) }
 {
     let sections = wanted_in(alloc, command.sections.as_slice())?;
+    if !are_sound(sections.as_slice()) {
+        return one(alloc, Reply::ErrorLine);
+    }
     match end.offer(sections) {
         Ok(text) => one(alloc, text_reply(text)),
         Err(error) => one(alloc, Reply::Refused(exchange_error_name(&error))),
@@ -70,7 +105,8 @@ fn text_in(bytes: &[u8]) -> Option<&str>
     }
 }
 
-/// Has an end answer an offer's text: an error line, where it isn't UTF-8; a refusal is printed by its name.
+/// Has an end answer an offer's text: an error line, where it isn't UTF-8, or the repairs of a section don't fit its
+/// sources; a refusal is printed by its name.
 ///
 /// # Errors
 /// Where memory for sections or replies runs out.
@@ -97,6 +133,9 @@ fn answer_text(
     ensures { IfOk result (λ replies. AnswersAnswer end.old text.now (wanted_in sections.now) end.new replies.items) }
 {
     let sections = wanted_in(alloc, sections)?;
+    if !are_sound(sections.as_slice()) {
+        return one(alloc, Reply::ErrorLine);
+    }
     match end.answer(text, sections) {
         Ok(text) => one(alloc, text_reply(text)),
         Err(error) => one(alloc, Reply::Refused(exchange_error_name(&error))),
@@ -144,7 +183,8 @@ pub fn withdraw(alloc: Global, end: &mut End) -> Result<Vec<Reply>, AllocError>
     }
 }
 
-/// Lets `a` offer and `b` answer: an error line, where one of them is none; a refusal is printed by its name.
+/// Lets `a` offer and `b` answer: an error line, where one of them is none, or the repairs of a section don't fit its
+/// sources; a refusal is printed by its name.
 ///
 /// # Errors
 /// Where memory for sections or replies runs out.
@@ -178,6 +218,9 @@ fn connect_made(
     ensures { IfOk result (λ replies. AnswersConnect a.old b.old offered.items answered.items a.new b.new
         replies.items) }
 {
+    if !are_sound(offered.as_slice()) || !are_sound(answered.as_slice()) {
+        return one(alloc, Reply::ErrorLine);
+    }
     match connect(a, b, offered, answered) {
         Ok((offer, answer)) => both_texts(alloc, offer, answer),
         Err(error) => one(alloc, Reply::Refused(exchange_error_name(&error))),

@@ -25,15 +25,15 @@ pub use rtp_media_lines::{
     lines_are_what_was_ended, run_lines, run_within, write_whole,
 };
 pub use rtp_media_play::{
-    Bandwidth, Codec, CodecConfig, CodecSpec, Datagram, Distances, End, EndError, Event,
-    ExchangeError, FormatParams, MAX_HELD, MIN_HELD, MediaKind, OpenError, PacketError,
-    PayloadParams, Played, PollFault, Polls, ReceiveError, Received, ReceivedAll, RoundError,
-    Sample, SampleError, SdpError, SectionSpec, Session, SessionAttribute, StreamParams, Unit,
-    connect, headline, may_hold, play,
+    AgreedSection, Bandwidth, Codec, CodecConfig, CodecSpec, Datagram, Distances, End, EndError,
+    Event, ExchangeError, FormatParams, MAX_HELD, MIN_HELD, MediaKind, OpenError, PacketError,
+    PayloadParams, Played, PollFault, Polls, ReceiveError, Received, ReceivedAll, RepairError,
+    RoundError, Sample, SampleError, SdpError, SectionSpec, Session, SessionAttribute,
+    StreamParams, Unit, are_sound, connect, headline, may_hold, play,
 };
 pub use rtp_wire::{
     Direction, Extension, ExtensionMap, ExtensionValues, Frequency, MediaTime, Mid, Pt, SeqNo,
     SessionId, Ssrc,
 };
 pub use sdp_formats_data::{Listed, Text};
-pub use streams::{open, poll, receive, sample, send, unit_reply, verdict_reply};
+pub use streams::{open, poll, receive, repair, sample, send, unit_reply, verdict_reply};

@@ -6,7 +6,7 @@ ghost use Rattle.rtp_media.specs.Replies.{Prints};
 ghost use Rattle.rtp_media.specs.Playing.{AnswersPlay, PlaysEnds, event_of, played_reply};
 ghost use Rattle.rtp_media.specs.Playing.{sample_at, samples_for};
 
-use crate::end_error_names::{fault_name, sample_error_name};
+use crate::end_error_names::{fault_name, repair_error_name, sample_error_name};
 use crate::memory_name::memory;
 use crate::replies::one;
 use crate::streams::{unit_reply, verdict_reply};
@@ -122,6 +122,7 @@ fn event_of(item: PlayItem) -> Event
 {
     match item {
         PlayItem::Arrive(k) => Event::Arrive(k),
+        PlayItem::Repair(k) => Event::Repair(k),
         PlayItem::Foreign(bytes) => Event::Foreign(Datagram::from_vec(bytes.into_vec())),
         PlayItem::Poll => Event::Poll,
     }
@@ -139,6 +140,7 @@ fn played_reply(played: Played) -> Reply
 {
     match played {
         Played::Received(verdict) => verdict_reply(verdict),
+        Played::NotRepaired(refusal) => Reply::Refused(repair_error_name(refusal)),
         Played::Polled(Ok(unit)) => unit_reply(unit),
         Played::Polled(Err(refusal)) => Reply::Fault(fault_name(PollFault::Payload(refusal))),
     }

@@ -15,7 +15,7 @@ use crate::exchanging::{accept, answer_offer, connect_ends, offer, withdraw};
 use crate::making::{draft_ext, draft_row, make_end, make_fixed};
 use crate::playing::{keep_sample, play_ends};
 use crate::replies::one;
-use crate::streams::{open, poll, receive, sample, send};
+use crate::streams::{open, poll, receive, repair, sample, send};
 use rtp_media_lines::{
     Command, ConnectCommand, Letter, PlayCommand, QueueCommand, Reply, Respond, RunFault, Status,
     run_lines,
@@ -130,6 +130,7 @@ fn command_letter(command: &Command) -> Letter
         Command::Sample(command) => command.letter,
         Command::Receive(command) => command.letter,
         Command::Poll(command) => command.letter,
+        Command::Repair(command) => command.letter,
         Command::Row(command) => command.letter,
         Command::Ext(command) => command.letter,
         Command::End(command) => command.letter,
@@ -171,7 +172,7 @@ fn answer_end(
     }
 }
 
-/// Answers a command at its end; the others aren't for here.
+/// Runs a command that needs an end.
 fn answer_at(alloc: Global, end: &mut End, command: Command) -> Result<Vec<Reply>, AllocError>
     ensures { IfOk result (λ replies. AnswersAtEnd end.old command end.new replies.items) }
 {
@@ -181,6 +182,7 @@ fn answer_at(alloc: Global, end: &mut End, command: Command) -> Result<Vec<Reply
         Command::Sample(command) => sample(alloc, end, command),
         Command::Receive(command) => receive(alloc, end, command),
         Command::Poll(command) => poll(alloc, end, command),
+        Command::Repair(command) => repair(alloc, end, command),
         Command::Offer(command) => offer(alloc, end, command),
         Command::Answer(command) => answer_offer(alloc, end, command),
         Command::Accept(command) => accept(alloc, end, command),

@@ -5,12 +5,13 @@ ghost use Rattle.rtp_media_lines.specs.declared.Command.{Command};
 ghost use Rattle.rtp_media.specs.Streams.{IsAnswered, params_of, verdict_reply, unit_reply};
 ghost use Rattle.rtp_media.specs.Streams.{values_given};
 
-use crate::end_error_names::{fault_name, open_error_name, sample_error_name};
+use crate::end_error_names::{fault_name, open_error_name, repair_error_name, sample_error_name};
 use crate::memory_name::memory;
 use crate::replies::one;
 use rtp_media_ends::{Datagram, Distances, End, Received, StreamParams, Unit, may_hold};
 use rtp_media_lines::{
-    Bytes, OpenCommand, PollCommand, ReceiveCommand, Reply, SampleCommand, SendCommand, Text,
+    Bytes, OpenCommand, PollCommand, ReceiveCommand, RepairCommand, Reply, SampleCommand,
+    SendCommand, Text,
 };
 use rtp_wire::{ExtensionValues, MediaTime, Mid, Pt, Ssrc};
 use std::alloc::{AllocError, Global};
@@ -166,6 +167,26 @@ pub fn poll(alloc: Global, end: &mut End, command: PollCommand) -> Result<Vec<Re
     match end.poll(command.stream) {
         Ok(unit) => one(alloc, unit_reply(unit)),
         Err(fault) => one(alloc, Reply::Fault(fault_name(fault))),
+    }
+}
+
+/// Sends a datagram again: an error line, where there is no such stream; a refusal is printed by its name.
+///
+/// # Errors
+/// Where memory for the reply runs out.
+pub fn repair(
+    alloc: Global,
+    end: &mut End,
+    command: RepairCommand,
+) -> Result<Vec<Reply>, AllocError>
+    ensures { IfOk result (λ replies. IsAnswered end.old (Command.Repair command) end.new replies.items) }
+{
+    if !end.is_sender(command.stream) {
+        return one(alloc, Reply::ErrorLine);
+    }
+    match end.repair(command.stream, command.datagram.as_slice()) {
+        Ok(datagram) => one(alloc, datagram_reply(datagram)),
+        Err(error) => one(alloc, Reply::Refused(repair_error_name(error))),
     }
 }
 

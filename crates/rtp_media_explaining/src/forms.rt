@@ -20,6 +20,7 @@ open E MID SSRC PT HOLDBACK [HELD]
 sample E N TIME HEX [mid=TEXT]
 receive E HEX
 poll E N
+repair E N HEX
 queue TIME HEX
 play TX RX ITEM..
 help
@@ -73,12 +74,12 @@ const NAMES: [(&str, Shape, &str); 23] = [
     (
         "SECTION..",
         Shape::Section,
-        "MID:KIND:DIR:SSRC,SSRC, as `0:audio:sendrecv:44`, with `-` for no SSRC",
+        "MID:KIND:DIR:SOURCE,SOURCE, as `0:video:sendrecv:44+45` where 45 repairs 44, with `-` for no source",
     ),
     (
         "ITEM..",
         Shape::Item,
-        "`a` and a place, `f` and hexadecimal digits, or `p`",
+        "`a` or `r` and a place, `f` and hexadecimal digits, or `p`",
     ),
     ("[mid=TEXT]", Shape::MidOption, "`mid=` and a text"),
     ("FIRST", Shape::Number(u64::MAX), UP_TO_64_BITS),
@@ -162,8 +163,19 @@ fn is_hex(word: &str) -> bool {
     !word.is_empty() && word.len() % 2 == 0
 }
 
+/// Whether sources are parted by commas, each of them one SSRC, or one with the SSRC that repairs it.
+fn are_sources(word: &str) -> bool {
+    for source in word.split(',') {
+        let (ssrc, repair) = source.split_once('+').unwrap_or((source, "0"));
+        if !is_number(ssrc, 0xffff_ffff) || !is_number(repair, 0xffff_ffff) {
+            return false;
+        }
+    }
+    true
+}
+
 fn is_item(word: &str) -> bool {
-    if let Some(place) = word.strip_prefix("a") {
+    if let Some(place) = word.strip_prefix("a").or(word.strip_prefix("r")) {
         return is_number(place, u64::MAX);
     }
     match word.strip_prefix("f") {
@@ -176,8 +188,8 @@ fn is_section(word: &str) -> bool {
     let Some((_, word)) = word.split_once(':') else {
         return false;
     };
-    let Some((media, ssrcs)) = word.rsplit_once(':') else {
+    let Some((media, sources)) = word.rsplit_once(':') else {
         return false;
     };
-    MEDIA.contains(&media) && (ssrcs == "-" || are_numbers(ssrcs, 0xffff_ffff))
+    MEDIA.contains(&media) && (sources == "-" || are_sources(sources))
 }

@@ -114,7 +114,13 @@ fn unmet<'a>(known: &Known, line: &'a str) -> Option<Reason<'a>> {
     match verb {
         "row" => Some(Reason::words("CLOCK has to be 1 or more")),
         "ext" => Some(Reason::around("", stream, " is no number of a header extension: 1 to 16")),
-        "answer" | "accept" => Some(Reason::words("HEX isn't a text of UTF-8")),
+        "accept" => Some(Reason::words("HEX isn't a text of UTF-8")),
+        "answer" => Some(Reason::words(
+            "HEX isn't a text of UTF-8, or a section's pairs of SSRCs aren't sound",
+        )),
+        "offer" | "connect" => Some(Reason::words(
+            "a section names an SSRC twice in its pairs, or one that repairs among those that send",
+        )),
         "send" => Some(unsound(line)),
         "open" => Some(Reason::words("HELD has to be 4096 to 16384")),
         _ => unmet_streams(known, verb, letter, stream),
@@ -144,7 +150,7 @@ fn unmet_streams<'a>(
             second,
             "b",
         )),
-        "sample" => unopened(known.end(first), true, second, first),
+        "sample" | "repair" => unopened(known.end(first), true, second, first),
         "poll" => unopened(known.end(first), false, second, first),
         _ => None,
     }

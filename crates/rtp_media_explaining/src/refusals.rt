@@ -6,7 +6,7 @@ ghost use Rattle.rtp_media_explaining.specs.Replies.{says_no};
 use crate::reason::Reason;
 
 /// Why each of these refusals comes.
-const REFUSALS: [(&str, &str); 20] = [
+const REFUSALS: [(&str, &str); 22] = [
     (
         "refused RowNotPlain",
         "a row of the draft is of a kind that an end can't agree on",
@@ -71,9 +71,17 @@ const REFUSALS: [(&str, &str); 20] = [
     ),
     (
         "refused LimitTooSmall",
-        "MTU and a header with all values pass LIMIT",
+        "MTU and a header with all values pass LIMIT, or a repair's two bytes more do",
     ),
     ("refused Payload", "the codec doesn't take these bytes"),
+    (
+        "refused NoRepair",
+        "the stream has no pair of an SSRC and a type for repairs, or it sends redundancy",
+    ),
+    (
+        "refused NotOwn",
+        "the datagram isn't one that the stream sent",
+    ),
     ("refused Memory", "memory runs out"),
 ];
 

@@ -6,17 +6,18 @@ use Rattle.std.specs.Str.{bytes_eq}
 use Rattle.rtp_media_lines.specs.declared.command.Command.{Command}
 use Rattle.rtp_media_lines.specs.declared.command.Command.TheVariants.{Fixed, Send, Open, Sample, Receive, Poll, Row}
 use Rattle.rtp_media_lines.specs.declared.command.Command.TheVariants.{Ext, End, Offer, Answer, Accept, Withdraw}
-use Rattle.rtp_media_lines.specs.declared.command.Command.TheVariants.{Connect, Queue, Play}
+use Rattle.rtp_media_lines.specs.declared.command.Command.TheVariants.{Connect, Queue, Play, Repair}
 use Rattle.rtp_media_lines.specs.Words.{letter_of, text_of, hex_of, dash_or, numbers_of, number_below, behind}
 use Rattle.rtp_media_lines.specs.Words.{held_value, mid_value, ◌>>=◌}
 use Rattle.rtp_media_lines.proofs.BehindLemmas.{behind-sound, behind-append}
 use Rattle.rtp_media_lines.specs.Lines.{command_of, fixed_of, send_of, open_of, sample_of, receive_of, poll_of}
+use Rattle.rtp_media_lines.specs.Lines.{repair_of}
 use Rattle.rtp_media_lines.proofs.ReadSteps.{dispatch, same, ended_some, read_on, glue, under}
 use Rattle.rtp_media_lines.proofs.ExchangeWords.{exchange_says, read_row, read_ext, read_end, read_offer, read_answer}
 use Rattle.rtp_media_lines.proofs.ExchangeWords.{read_accept, read_withdraw, read_connect}
 use Rattle.rtp_media_lines.proofs.PlayWords.{read_play, read_queue}
 use Rattle.rtp_media_lines.specs.Says.{Says, AreSendWords, AreOpenWords, AreSampleWords, mid_words, AreReceiveWords}
-use Rattle.rtp_media_lines.specs.Says.{ArePollWords, held_number}
+use Rattle.rtp_media_lines.specs.Says.{ArePollWords, AreRepairWords, held_number}
 
 -- ---- what is read stands there
 
@@ -181,6 +182,26 @@ poll_says verb words c v h =
       stream_says = says_stream;
     })))
 
+repair_says : (verb : List ℕ) (words : List (List ℕ)) (c : Command) → verb ≡ codes "repair" → repair_of words
+    ≡ Some c → Says (verb ∷ words) c
+unfolding repair_of
+repair_says verb words c v h =
+    read_on _ letter_of words _ c h (λ e_word after_e e is_e says_e left_e.
+    read_on _ (number_below (2 ^ 64)) after_e _ c left_e
+    (λ stream_word after_stream stream is_stream says_stream left_stream.
+    read_on _ hex_of after_stream _ c left_stream (λ bytes_word after_bytes bytes is_bytes says_bytes left_bytes.
+    let end = ended_some after_bytes _ c left_bytes in
+    subst (Says (verb ∷ words)) end.1 (record {
+      e = e_word;
+      stream = stream_word;
+      bytes = bytes_word;
+      words_are = glue v (is_e ∙ under e_word (is_stream
+          ∙ under stream_word (is_bytes ∙ under bytes_word end.0)));
+      e_says = says_e;
+      stream_says = says_stream;
+      bytes_say = says_bytes;
+    }))))
+
 pub says_what_is_read : (words : List (List ℕ)) (c : Command) → command_of words ≡ Some c → Says words c
 says_what_is_read [] c h = cc h
 says_what_is_read (verb ∷ words) c h =
@@ -190,7 +211,8 @@ says_what_is_read (verb ∷ words) c h =
     (dispatch (bytes_eq verb (codes "sample")) _ _ _ _ (λ v. sample_says verb words c (same verb _ v))
     (dispatch (bytes_eq verb (codes "receive")) _ _ _ _ (λ v. receive_says verb words c (same verb _ v))
     (dispatch (bytes_eq verb (codes "poll")) _ _ _ _ (λ v. poll_says verb words c (same verb _ v))
-    (exchange_says verb words c)))))) h
+    (dispatch (bytes_eq verb (codes "repair")) _ _ _ _ (λ v. repair_says verb words c (same verb _ v))
+    (exchange_says verb words c))))))) h
 
 -- ---- what stands there is read
 
@@ -242,6 +264,11 @@ read_poll : (words : List (List ℕ)) (poll : _) (a : ArePollWords words poll) �
 unfolding poll_of
 read_poll words poll a = rw (a.e_says, a.stream_says) refl
 
+read_repair : (words : List (List ℕ)) (repair : _) (a : AreRepairWords words repair)
+    → repair_of (a.e ∷ a.stream ∷ a.bytes ∷ []) ≡ Some (Repair repair)
+unfolding repair_of
+read_repair words repair a = rw (a.e_says, a.stream_says, a.bytes_say) refl
+
 abbrev Reads : Command → List (List ℕ) → Type 0
 Reads c words = command_of words ≡ Some c
 
@@ -253,6 +280,7 @@ read_what_is_said words (Sample sample) a = subst (Reads (Sample sample)) (sym a
 read_what_is_said words (Receive receive) a =
     subst (Reads (Receive receive)) (sym a.words_are) (read_receive words receive a)
 read_what_is_said words (Poll poll) a = subst (Reads (Poll poll)) (sym a.words_are) (read_poll words poll a)
+read_what_is_said words (Repair repair) a = subst (Reads (Repair repair)) (sym a.words_are) (read_repair words repair a)
 read_what_is_said words (Row row) a = subst (Reads (Row row)) (sym a.words_are) (read_row words row a)
 read_what_is_said words (Ext ext) a = subst (Reads (Ext ext)) (sym a.words_are) (read_ext words ext a)
 read_what_is_said words (End end') a = subst (Reads (End end')) (sym a.words_are) (read_end words end' a)

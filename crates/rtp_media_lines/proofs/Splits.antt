@@ -6,7 +6,7 @@ use Rattle.std.proofs.lemmas.Bool.{cond_both}
 use Rattle.std.proofs.lemmas.List.Splits.{slice_split_first}
 use Rattle.std.proofs.lemmas.Str.Pattern.{IsSplitOnceResult, split_once_first}
 use Rattle.rtp_media_lines.specs.Words.{words_of, comma_parts, ended}
-use Rattle.rtp_media_lines.specs.Sections.{colon_parts}
+use Rattle.rtp_media_lines.specs.Sections.{colon_parts, plus_parts}
 
 abbrev pub IsCons : {X : Type 0} → List X → Type 0
 IsCons {X} xs = (y : X) × (ys : List X) × (xs ≡ y ∷ ys)
@@ -70,9 +70,20 @@ colon_parts-split text part rest h = split_at_byte 58 text part rest (lit< tt) h
 pub colon_parts-whole : (text : List ℕ) → IsSplitOnceResult 58 text None → colon_parts text ≡ text ∷ []
 colon_parts-whole text h = split_nowhere 58 text (lit< tt) h
 
+pub plus_parts-split : (text : List ℕ) (part rest : Bor (List ℕ)) → IsSplitOnceResult 43 text (Some (part, rest))
+    → plus_parts text ≡ part.now ∷ plus_parts rest.now
+plus_parts-split text part rest h = split_at_byte 43 text part rest (lit< tt) h
+
+pub plus_parts-whole : (text : List ℕ) → IsSplitOnceResult 43 text None → plus_parts text ≡ text ∷ []
+plus_parts-whole text h = split_nowhere 43 text (lit< tt) h
+
 -- a line has a word
 pub ended-words_of : {A : Type 0} (line : List ℕ) (x : A) → ended (words_of line) x ≡ None
 ended-words_of line x = let parts = slice_split-IsCons (λ b. b == 32) line in rw parts.2 refl
+
+-- a source has a part
+pub ended-plus_parts : {A : Type 0} (word : List ℕ) (x : A) → ended (plus_parts word) x ≡ None
+ended-plus_parts word x = let parts = slice_split-IsCons (λ b. b == 43) word in rw parts.2 refl
 
 -- a word has a part
 pub ended-colon_parts : {A : Type 0} (word : List ℕ) (x : A) → ended (colon_parts word) x ≡ None

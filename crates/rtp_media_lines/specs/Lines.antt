@@ -5,6 +5,7 @@ use Rattle.rtp_media_lines.specs.declared.line.Line.{Line}
 use Rattle.rtp_media_lines.specs.declared.line.Line.TheVariants as line
 use Rattle.rtp_media_lines.specs.declared.command.Command.{Command}
 use Rattle.rtp_media_lines.specs.declared.command.Command.TheVariants.{Fixed, Send, Open, Sample, Receive, Poll}
+use Rattle.rtp_media_lines.specs.declared.command.Command.TheVariants.{Repair}
 use Rattle.std.specs.Option.{option_map}
 use Rattle.rtp_media_lines.specs.declared.words.Letter.{Letter}
 use Rattle.rtp_media_lines.specs.ExchangeLines.{row_of, ext_of, end_of, offer_of, answer_of, accept_of, withdraw_of}
@@ -92,6 +93,14 @@ poll_of words = do
   stream ← first (number_below (2 ^ 64)) letter.1
   ended stream.1 (Poll (record { letter = letter.0; stream = stream.0 }))
 
+-- repair E N HEX
+unfoldable pub repair_of : List (List ℕ) → Option Command
+repair_of words = do
+  letter ← first letter_of words
+  stream ← first (number_below (2 ^ 64)) letter.1
+  datagram ← first hex_of stream.1
+  ended datagram.1 (Repair (record { letter = letter.0; stream = stream.0; datagram = datagram.0 }))
+
 -- A command of whole runs, by its first word.
 abbrev pub run_command_of : List ℕ → List (List ℕ) → Option Command
 run_command_of verb words =
@@ -122,6 +131,7 @@ command_of (verb ∷ words) =
     else if bytes_eq verb (codes "sample") then sample_of words
     else if bytes_eq verb (codes "receive") then receive_of words
     else if bytes_eq verb (codes "poll") then poll_of words
+    else if bytes_eq verb (codes "repair") then repair_of words
     else exchange_command_of verb words
 
 -- What a line says, where it is understood.

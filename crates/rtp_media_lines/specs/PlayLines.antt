@@ -5,20 +5,21 @@ use Rattle.std.specs.Str.{bytes_eq}
 use Rattle.rtp_media_lines.specs.declared.command.Command.{Command}
 use Rattle.rtp_media_lines.specs.declared.command.Command.TheVariants.{Queue, Play}
 use Rattle.rtp_media_lines.specs.declared.playing.PlayItem.{PlayItem}
-use Rattle.rtp_media_lines.specs.declared.playing.PlayItem.TheVariants.{Arrive, Foreign, Poll}
+use Rattle.rtp_media_lines.specs.declared.playing.PlayItem.TheVariants.{Arrive, Repair, Foreign, Poll}
 use Rattle.rtp_media_lines.specs.Words.{behind, each_of, ended, first, hex_of, number_below, ◌>>=◌}
 
--- What stands behind an `a`, or else behind an `f`.
-abbrev pub item_behind : Option (List ℕ) → Option (List ℕ) → Option PlayItem
-item_behind (Some number) bytes = option_map Arrive (number_below (2 ^ 64) number)
-item_behind None (Some bytes) = option_map Foreign (hex_of bytes)
-item_behind None None = None
+-- What stands behind an `f`, behind an `r`, or behind an `a`.
+abbrev pub item_behind : Option (List ℕ) → Option (List ℕ) → Option (List ℕ) → Option PlayItem
+item_behind (Some bytes) repaired arrived = option_map Foreign (hex_of bytes)
+item_behind None (Some number) arrived = option_map Repair (number_below (2 ^ 64) number)
+item_behind None None (Some number) = option_map Arrive (number_below (2 ^ 64) number)
+item_behind None None None = None
 
--- `a` and a place, `f` and bytes, or `p`
+-- `a` and a place, `r` and a place, `f` and bytes, or `p`
 unfoldable pub item_of : List ℕ → Option PlayItem
 item_of word =
     if bytes_eq word (codes "p") then Some Poll
-    else item_behind (behind (codes "a") word) (behind (codes "f") word)
+    else item_behind (behind (codes "f") word) (behind (codes "r") word) (behind (codes "a") word)
 
 -- An item in each word.
 abbrev pub items_of : List (List ℕ) → Option (List PlayItem)

@@ -3,12 +3,13 @@ use Rattle.std.specs.Prelude.{◌≡◌, ℕ, ◌^◌, List, [], ◌∷◌, ◌+
 use Rattle.rtp_media_lines.specs.declared.command.Command.{Command}
 use Rattle.rtp_media_lines.specs.declared.command.Command.TheVariants.{Fixed, Send, Open, Sample, Receive, Poll, Row}
 use Rattle.rtp_media_lines.specs.declared.command.Command.TheVariants.{Ext, End, Offer, Answer, Accept, Withdraw}
-use Rattle.rtp_media_lines.specs.declared.command.Command.TheVariants.{Connect, Queue, Play}
+use Rattle.rtp_media_lines.specs.declared.command.Command.TheVariants.{Connect, Queue, Play, Repair}
 use Rattle.rtp_media_lines.specs.declared.command.SendCommand.{SendCommand}
 use Rattle.rtp_media_lines.specs.declared.command.OpenCommand.{OpenCommand}
 use Rattle.rtp_media_lines.specs.declared.command.SampleCommand.{SampleCommand}
 use Rattle.rtp_media_lines.specs.declared.command.ReceiveCommand.{ReceiveCommand}
 use Rattle.rtp_media_lines.specs.declared.command.PollCommand.{PollCommand}
+use Rattle.rtp_media_lines.specs.declared.command.RepairCommand.{RepairCommand}
 use Rattle.rtp_media_lines.specs.declared.exchange.RowCommand.{RowCommand}
 use Rattle.rtp_media_lines.specs.declared.exchange.ExtCommand.{ExtCommand}
 use Rattle.rtp_media_lines.specs.declared.exchange.EndCommand.{EndCommand}
@@ -97,6 +98,16 @@ pub record ArePollWords (words : List (List ℕ)) (poll : PollCommand) : Type 0 
   pub words_are : words ≡ codes "poll" ∷ e ∷ stream ∷ []
   pub e_says : letter_of e ≡ Some poll.letter
   pub stream_says : number_below (2 ^ 64) stream ≡ Some poll.stream
+
+-- repair E N HEX
+pub record AreRepairWords (words : List (List ℕ)) (repair : RepairCommand) : Type 0 where
+  pub e : List ℕ
+  pub stream : List ℕ
+  pub bytes : List ℕ
+  pub words_are : words ≡ codes "repair" ∷ e ∷ stream ∷ bytes ∷ []
+  pub e_says : letter_of e ≡ Some repair.letter
+  pub stream_says : number_below (2 ^ 64) stream ≡ Some repair.stream
+  pub bytes_say : hex_of bytes ≡ Some repair.datagram
 
 -- row E PT RTX RED CODEC CLOCK CHANNELS FMTP
 pub record AreRowWords (words : List (List ℕ)) (row : RowCommand) : Type 0 where
@@ -197,6 +208,7 @@ Says words (Open open') = AreOpenWords words open'
 Says words (Sample sample) = AreSampleWords words sample
 Says words (Receive receive) = AreReceiveWords words receive
 Says words (Poll poll) = ArePollWords words poll
+Says words (Repair repair) = AreRepairWords words repair
 Says words (Row row) = AreRowWords words row
 Says words (Ext ext) = AreExtWords words ext
 Says words (End end') = AreEndWords words end'

@@ -7,6 +7,7 @@ use Rattle.payload_core_base.specs.declared.codec.MediaKind.TheVariants.{Audio, 
 use Rattle.rtp_wire.specs.declared.Direction.{Direction}
 use Rattle.rtp_wire.specs.declared.Direction.TheVariants.{SendOnly, RecvOnly, SendRecv, Inactive}
 use Rattle.rtp_media_lines.specs.declared.sections.SectionWord.{SectionWord}
+use Rattle.rtp_media_lines.specs.declared.sections.SourceWord.{SourceWord}
 use Rattle.rtp_media_lines.specs.Words.{number_below, each_of, comma_parts, first, ended, ◌>>=◌}
 
 -- `audio` or `video`
@@ -23,9 +24,32 @@ direction_of word =
     else if bytes_eq word (codes "inactive") then Some Inactive
     else None
 
--- Numbers of 32 bits, parted by single commas; a dash for none.
-abbrev pub ssrcs_of : List ℕ → Option (List ℕ)
-ssrcs_of word = if bytes_eq word (codes "-") then Some [] else each_of (number_below (2 ^ 32)) (comma_parts word)
+-- What stands between single plus signs.
+abbrev pub plus_parts : List ℕ → List (List ℕ)
+plus_parts word = slice_split (λ b. b == 43) word
+
+-- The parts of what is left of a word, none where its last part has been read.
+abbrev pub plus_parts_in : Option (List ℕ) → List (List ℕ)
+plus_parts_in None = []
+plus_parts_in (Some rest) = plus_parts rest
+
+-- No part, or one that is a number of 32 bits.
+abbrev pub repair_of : List (List ℕ) → Option (Option ℕ)
+repair_of [] = Some None
+repair_of (part ∷ parts) = do
+  number ← number_below (2 ^ 32) part
+  ended parts (Some number)
+
+-- SSRC, or SSRC+REPAIR
+unfoldable pub source_of : List ℕ → Option SourceWord
+source_of word = do
+  ssrc ← first (number_below (2 ^ 32)) (plus_parts word)
+  repair ← repair_of ssrc.1
+  Some (record { ssrc = ssrc.0; repair = repair })
+
+-- Sources, parted by single commas; a dash for none.
+abbrev pub sources_of : List ℕ → Option (List SourceWord)
+sources_of word = if bytes_eq word (codes "-") then Some [] else each_of source_of (comma_parts word)
 
 -- What stands between single colons.
 abbrev pub colon_parts : List ℕ → List (List ℕ)
@@ -36,14 +60,14 @@ abbrev pub colon_parts_in : Option (List ℕ) → List (List ℕ)
 colon_parts_in None = []
 colon_parts_in (Some rest) = colon_parts rest
 
--- MID:KIND:DIR:SSRC,SSRC
+-- MID:KIND:DIR:SOURCE,SOURCE
 unfoldable pub section_of : List ℕ → Option SectionWord
 section_of word = do
   mid ← first Some (colon_parts word)
   kind ← first kind_of mid.1
   direction ← first direction_of kind.1
-  ssrcs ← first ssrcs_of direction.1
-  ended ssrcs.1 (record { mid = mid.0; kind = kind.0; direction = direction.0; ssrcs = ssrcs.0 })
+  sources ← first sources_of direction.1
+  ended sources.1 (record { mid = mid.0; kind = kind.0; direction = direction.0; sources = sources.0 })
 
 -- A section in each word.
 abbrev pub sections_of : List (List ℕ) → Option (List SectionWord)

@@ -62,6 +62,17 @@ pub struct SampleCommand {
     pub mid: Option<Text>,
 }
 
+/// `repair E N HEX`: send a datagram again under the repair pair of its stream (RFC 4588).
+#[derive(Drop)]
+pub struct RepairCommand {
+    /// The end that sent it.
+    pub letter: Letter,
+    /// The number of the sending stream.
+    pub stream: usize,
+    /// The datagram's bytes, as they were sent.
+    pub datagram: Bytes,
+}
+
 /// `receive E HEX`: hand an end a datagram.
 #[derive(Drop)]
 pub struct ReceiveCommand {
@@ -95,6 +106,8 @@ pub enum Command {
     Receive(ReceiveCommand),
     /// Ask a receiving stream for its next unit.
     Poll(PollCommand),
+    /// Send a datagram again.
+    Repair(RepairCommand),
     /// Put a row into the draft of an end.
     Row(RowCommand),
     /// Put a header extension into the draft of an end.

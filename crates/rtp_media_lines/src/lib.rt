@@ -20,7 +20,9 @@ mod status;
 mod words;
 mod writing;
 
-pub use command::{Command, OpenCommand, PollCommand, ReceiveCommand, SampleCommand, SendCommand};
+pub use command::{
+    Command, OpenCommand, PollCommand, ReceiveCommand, RepairCommand, SampleCommand, SendCommand,
+};
 pub use exchange::{
     AcceptCommand, AnswerCommand, ConnectCommand, EndCommand, ExtCommand, OfferCommand, RowCommand,
     accept_of, answer_of, connect_of, end_of, ext_of, offer_of, row_of, withdraw_of,
@@ -40,7 +42,9 @@ pub use playing::{PlayCommand, PlayItem, PlayItems, QueueCommand, play_of, queue
 pub use reply::{ErrorName, Reply, print};
 pub use respond::Respond;
 pub use round::printed_words_read_back;
-pub use sections::{SectionWord, Sections, Ssrcs, section_words, sections_before_slash};
+pub use sections::{
+    SectionWord, Sections, SourceWord, Sources, section_words, sections_before_slash,
+};
 pub use status::{RunFault, Status};
 pub use words::{Letter, Words};
 pub use writing::{WriteFault, write_whole};

@@ -3,10 +3,11 @@
 ghost use Rattle.std.specs.Prelude.{◌≡◌, IfOk};
 ghost use Rattle.rtp_media_lines.specs.Misreads.{Reads};
 ghost use Rattle.rtp_media_lines.specs.Lines.{line_of, command_of, exchange_command_of, fixed_of, send_of, open_of};
-ghost use Rattle.rtp_media_lines.specs.Lines.{sample_of, receive_of, poll_of, run_command_of, rest_of_send};
+ghost use Rattle.rtp_media_lines.specs.Lines.{sample_of, receive_of, poll_of, repair_of, run_command_of};
+ghost use Rattle.rtp_media_lines.specs.Lines.{rest_of_send};
 
 use crate::command::{
-    Command, OpenCommand, PollCommand, ReceiveCommand, SampleCommand, SendCommand,
+    Command, OpenCommand, PollCommand, ReceiveCommand, RepairCommand, SampleCommand, SendCommand,
 };
 use crate::exchange::{
     accept_of, answer_of, connect_of, end_of, ext_of, offer_of, row_of, withdraw_of,
@@ -67,6 +68,7 @@ fn command_of(alloc: Global, words: Words<'_>) -> Result<Command, Misread>
         "sample" => sample_of(alloc, rest),
         "receive" => receive_of(alloc, rest),
         "poll" => poll_of(rest),
+        "repair" => repair_of(alloc, rest),
         _ => exchange_command_of(alloc, verb, rest),
     }
 }
@@ -205,5 +207,20 @@ fn poll_of(words: Words<'_>) -> Result<Command, Misread>
     Ok(Command::Poll(PollCommand {
         letter,
         stream: stream as usize,
+    }))
+}
+
+#[tactic(auto, unfolding(crate::specs::Lines::repair_of))]
+fn repair_of(alloc: Global, words: Words<'_>) -> Result<Command, Misread>
+    ensures { Reads result (repair_of words.entry) }
+{
+    let (letter, rest) = letter_word(words)?;
+    let (stream, rest) = number_word(rest, usize::MAX as u64)?;
+    let (datagram, rest) = hex_word(alloc, rest)?;
+    rest.end()?;
+    Ok(Command::Repair(RepairCommand {
+        letter,
+        stream: stream as usize,
+        datagram,
     }))
 }

@@ -10,7 +10,7 @@ pub struct Bytes {
     items: Vec<u8>,
 }
 
-/// Written out, so that who lets one go needs nothing of what is inside.
+/// Written by hand so that crates that drop this type need no proof about its fields.
 impl Drop for Bytes {
     fn drop(self) {
         let Bytes { items: _items } = self;
@@ -52,7 +52,7 @@ pub struct Text {
     text: String,
 }
 
-/// Written out, so that who lets one go needs nothing of what is inside.
+/// Written by hand so that crates that drop this type need no proof about its fields.
 impl Drop for Text {
     fn drop(self) {
         let Text { text: _text } = self;

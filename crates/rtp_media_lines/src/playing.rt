@@ -1,8 +1,9 @@
 //! The lines of whole runs.
 
-ghost use Rattle.std.specs.Prelude.{◌≡◌, ℕ, List};
+ghost use Rattle.std.specs.Prelude.{◌≡◌, ◌^◌, ℕ, List};
 ghost use Rattle.rtp_media_lines.specs.Misreads.{Reads};
 ghost use Rattle.rtp_media_lines.specs.PlayLines.{item_of, items_of, play_of, queue_of};
+ghost use Rattle.rtp_media_lines.specs.Words.{number_below};
 
 use crate::command::Command;
 use crate::fields::{behind, hex_of, hex_word, number_up_to, number_word};
@@ -26,6 +27,8 @@ pub struct QueueCommand {
 pub enum PlayItem {
     /// `a3`: the sender's datagram of this place arrives, counted from 0.
     Arrive(usize),
+    /// `r3`: the sender's datagram of this place is sent again, and arrives as a repair.
+    Repair(usize),
     /// `fHEX`: other bytes arrive.
     Foreign(Bytes),
     /// `p`: the receiving stream is polled.
@@ -108,14 +111,24 @@ fn item_of(alloc: Global, word: &str) -> Result<PlayItem, Misread>
     if word == "p" {
         return Ok(PlayItem::Poll);
     }
-    let Some(number) = behind(word, "a") else {
-        let Some(bytes) = behind(word, "f") else {
-            return Err(Misread::NotUnderstood);
-        };
+    if let Some(bytes) = behind(word, "f") {
         return Ok(PlayItem::Foreign(hex_of(alloc, bytes)?));
+    }
+    if let Some(number) = behind(word, "r") {
+        return Ok(PlayItem::Repair(place_of(number)?));
+    }
+    let Some(number) = behind(word, "a") else {
+        return Err(Misread::NotUnderstood);
     };
+    Ok(PlayItem::Arrive(place_of(number)?))
+}
+
+/// The place of a datagram.
+fn place_of(number: &str) -> Result<usize, Misread>
+    ensures { Reads result (number_below (2 ^ 64) number.now) }
+{
     match number_up_to(number, usize::MAX as u64) {
-        Some(number) => Ok(PlayItem::Arrive(number as usize)),
+        Some(number) => Ok(number as usize),
         None => Err(Misread::NotUnderstood),
     }
 }

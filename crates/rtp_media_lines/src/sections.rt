@@ -1,10 +1,11 @@
 //! The sections that a line names.
 
-ghost use Rattle.std.specs.Prelude.{◌≡◌, ℕ, ◌^◌, List, ◌∷◌};
+ghost use Rattle.std.specs.Prelude.{◌≡◌, ◌≢◌, ℕ, ◌^◌, List, ◌∷◌, IfErr};
 ghost use Rattle.std.specs.Option.{option_copied};
-ghost use Rattle.rtp_media_lines.specs.Sections.{kind_of, direction_of, ssrcs_of, colon_parts, colon_parts_in};
+ghost use Rattle.rtp_media_lines.specs.Sections.{kind_of, direction_of, colon_parts, colon_parts_in, plus_parts};
+ghost use Rattle.rtp_media_lines.specs.Sections.{plus_parts_in, repair_of, source_of, sources_of};
 ghost use Rattle.rtp_media_lines.specs.Sections.{section_of, sections_of, sections_then_slash};
-ghost use Rattle.rtp_media_lines.specs.Words.{ended};
+ghost use Rattle.rtp_media_lines.specs.Words.{ended, number_below};
 ghost use Rattle.rtp_media_lines.specs.Misreads.{Reads};
 
 use crate::fields::{number_up_to, split_comma};
@@ -16,36 +17,40 @@ use rtp_wire::Direction;
 use std::alloc::Global;
 use std::marker::Model;
 
-/// The synchronization sources that a section names (RFC 5576 4.1).
-pub struct Ssrcs {
-    numbers: Vec<u32>,
+/// `SSRC` or `SSRC+REPAIR`: a synchronization source, and the one that repairs it (RFC 5576 4.1, RFC 4588 8.3).
+#[derive(Clone, Copy, Debug, PartialEq, Eq, Drop)]
+pub struct SourceWord {
+    /// The source.
+    pub ssrc: u32,
+    /// The source that sends its datagrams again.
+    pub repair: Option<u32>,
 }
 
-/// Written out, so that who lets one go needs nothing of what is inside.
-impl Drop for Ssrcs {
-    fn drop(self) {
-        let Ssrcs { numbers: _numbers } = self;
-    }
+/// The synchronization sources that a section names.
+#[derive(Drop)]
+pub struct Sources {
+    items: Vec<SourceWord>,
 }
 
-impl Model for Ssrcs {
-    ghost use Rattle.std.specs.Prelude.{ℕ, List};
+impl Model for Sources {
+    ghost use Rattle.std.specs.Prelude.{List};
+    ghost use Rattle.rtp_media_lines.specs.declared.sections.SourceWord.{SourceWord};
 
-    ghost Value = { List ℕ };
+    ghost Value = { List SourceWord };
 
-    ghost view = { λ s. s.numbers.items };
+    ghost view = { λ s. s.items.items };
 }
 
-impl Ssrcs {
+impl Sources {
     /// The sources.
-    pub fn as_slice(&self) -> &[u32]
+    pub fn as_slice(&self) -> &[SourceWord]
         ensures { result.now ≡ self.now }
     {
-        self.numbers.as_slice()
+        self.items.as_slice()
     }
 }
 
-/// `MID:KIND:DIR:SSRC,SSRC`: a section as an end wants it.
+/// `MID:KIND:DIR:SOURCE,SOURCE`: a section as an end wants it.
 pub struct SectionWord {
     /// The media identification (RFC 5888 4), which may be empty here.
     pub mid: Text,
@@ -54,17 +59,17 @@ pub struct SectionWord {
     /// Which way the end wants media to flow.
     pub direction: Direction,
     /// The synchronization sources that the end sends under.
-    pub ssrcs: Ssrcs,
+    pub sources: Sources,
 }
 
-/// Written out, so that who lets one go needs nothing of what is inside.
+/// Written by hand so that crates that drop this type need no proof about its fields.
 impl Drop for SectionWord {
     fn drop(self) {
         let SectionWord {
             mid: _mid,
             kind: _kind,
             direction: _direction,
-            ssrcs: _ssrcs,
+            sources: _sources,
         } = self;
     }
 }
@@ -117,26 +122,79 @@ fn direction_of(word: &str) -> Option<Direction>
     }
 }
 
-/// The numbers of 32 bits that stand between single commas, or none at a dash.
-fn ssrcs_of(alloc: Global, word: &str) -> Result<Ssrcs, Misread>
-    ensures { Reads result (ssrcs_of word.now) }
+/// The text before the first plus sign, and what stands behind that sign.
+fn split_plus(text: &str) -> (&str, Option<&str>)
+    ensures { plus_parts text.now ≡ result.0.now ∷ plus_parts_in (option_copied result.1) }
 {
-    if word == "-" {
-        return Ok(Ssrcs {
-            numbers: Vec::new(alloc),
-        });
+    match text.split_once('+') {
+        Some((part, rest)) => (part, Some(rest)),
+        None => (text, None),
     }
-    let mut numbers = Vec::new(alloc);
+}
+
+/// A number of 32 bits.
+fn ssrc_of(word: &str) -> Result<u32, Misread>
+    ensures value { Reads result (number_below (2 ^ 32) word.now) }
+    ensures never_memory { IfErr result (λ e. e ≢ Misread.Memory) }
+{
+    match number_up_to(word, u32::MAX as u64) {
+        Some(number) => Ok(number as u32),
+        None => Err(Misread::NotUnderstood),
+    }
+}
+
+/// No part is left.
+fn end_of_plus_parts(parts: Option<&str>) -> Result<(), Misread>
+    ensures value { Reads result (ended (plus_parts_in (option_copied parts.entry)) tt) }
+    ensures never_memory { IfErr result (λ e. e ≢ Misread.Memory) }
+{
+    match parts {
+        None => Ok(()),
+        Some(_) => Err(Misread::NotUnderstood),
+    }
+}
+
+/// The source that repairs, of the parts behind a source.
+fn repair_of(parts: Option<&str>) -> Result<Option<u32>, Misread>
+    ensures value { Reads result (repair_of (plus_parts_in (option_copied parts.entry))) }
+    ensures never_memory { IfErr result (λ e. e ≢ Misread.Memory) }
+{
+    let Some(rest) = parts else {
+        return Ok(None);
+    };
+    let (part, rest) = split_plus(rest);
+    let ssrc = ssrc_of(part)?;
+    end_of_plus_parts(rest)?;
+    Ok(Some(ssrc))
+}
+
+/// The source of a word.
+#[tactic(auto, unfolding(crate::specs::Sections::source_of))]
+fn source_of(word: &str) -> Result<SourceWord, Misread>
+    ensures value { Reads result (source_of word.now) }
+    ensures never_memory { IfErr result (λ e. e ≢ Misread.Memory) }
+{
+    let (ssrc, rest) = split_plus(word);
+    let ssrc = ssrc_of(ssrc)?;
+    let repair = repair_of(rest)?;
+    Ok(SourceWord { ssrc, repair })
+}
+
+/// The sources that stand between single commas, or none at a dash.
+fn sources_of(alloc: Global, word: &str) -> Result<Sources, Misread>
+    ensures { Reads result (sources_of word.now) }
+{
+    let mut items = Vec::new(alloc);
+    if word == "-" {
+        return Ok(Sources { items });
+    }
     let mut rest = Some(word);
     while let Some(text) = rest {
-        let (number, after) = split_comma(text);
-        let Some(number) = number_up_to(number, u32::MAX as u64) else {
-            return Err(Misread::NotUnderstood);
-        };
-        numbers.push(number as u32)?;
+        let (source, after) = split_comma(text);
+        items.push(source_of(source)?)?;
         rest = after;
     }
-    Ok(Ssrcs { numbers })
+    Ok(Sources { items })
 }
 
 /// The text before the first colon, and what stands behind that colon.
@@ -173,17 +231,17 @@ fn section_of(alloc: Global, word: &str) -> Result<SectionWord, Misread>
     let (direction, Some(rest)) = split_colon(rest) else {
         return Err(Misread::NotUnderstood);
     };
-    let (ssrcs, rest) = split_colon(rest);
+    let (sources, rest) = split_colon(rest);
     end_of_parts(rest)?;
     let (Some(kind), Some(direction)) = (kind_of(kind), direction_of(direction)) else {
         return Err(Misread::NotUnderstood);
     };
-    let ssrcs = ssrcs_of(alloc, ssrcs)?;
+    let sources = sources_of(alloc, sources)?;
     Ok(SectionWord {
         mid: Text::from_str(alloc, mid)?,
         kind,
         direction,
-        ssrcs,
+        sources,
     })
 }
 
