@@ -83,7 +83,10 @@ enum {
     JILQAMUR_AV1_CORRUPTED = 43,          /* an AV1 packet breaks its format */
     JILQAMUR_RED_CORRUPTED = 44,          /* a redundant payload breaks its format (RFC 2198 3) */
     JILQAMUR_EVENT_INVALID = 45,          /* event reports are no nonempty multiple of four bytes (RFC 4733 2.3) */
-    JILQAMUR_AMR_WB_CORRUPTED = 46        /* an AMR-WB packet or sample breaks its format (RFC 4867 4.3) */
+    JILQAMUR_AMR_WB_CORRUPTED = 46,       /* an AMR-WB packet or sample breaks its format (RFC 4867 4.3) */
+    /* Why a datagram isn't repaired: */
+    JILQAMUR_NO_REPAIR = 47,              /* the stream has no pair for repairs, or sends redundancy (RFC 4588 8.3) */
+    JILQAMUR_NOT_OWN = 48                 /* the datagram isn't one that the stream sent */
 };
 
 /* What an answer means, in words; never null. Those of JILQAMUR_DAMAGED name its first cause alone. */
@@ -137,6 +140,8 @@ static inline const char *jilqamur_error_text(uint32_t answer)
         "corrupted redundant packet",
         "invalid telephone event",
         "corrupted AMR-WB packet",
+        "the stream has no pair for repairs",
+        "the stream did not send this datagram",
     };
     return answer < sizeof texts / sizeof texts[0] ? texts[answer] : "no such answer";
 }
@@ -352,22 +357,27 @@ uint32_t jilqamur_end_extension(jilqamur_end *end, uint8_t id, const uint8_t *ur
  * JILQAMUR_MEMORY, and the end stays. The draft is empty afterwards, refused or not. */
 uint32_t jilqamur_end_make(jilqamur_end *end, uint64_t session);
 
+/* Lets the SSRC repair send again what ssrc sends (RFC 4588 8.3), in the section that is put next. JILQAMUR_MEMORY, and
+ * nothing has changed. */
+uint32_t jilqamur_end_section_repair(jilqamur_end *end, uint32_t ssrc, uint32_t repair);
+
 /* Puts a section behind those of the next offer or answer: its name (RFC 5888; at most 16 bytes, each a letter, a digit
- * or _), audio or video, which way media shall flow as this end sees it, and the SSRCs that this end sends under. Each
- * offer and each answer uses the gathered sections up. JILQAMUR_NOT_TEXT, or JILQAMUR_MEMORY, and nothing has
- * changed. */
+ * or _), audio or video, which way media shall flow as this end sees it, and the SSRCs that this end sends under, with
+ * the repairs that were put before it, which it uses up. Each offer and each answer uses the gathered sections up.
+ * JILQAMUR_NOT_TEXT, or JILQAMUR_MEMORY, and nothing has changed. */
 uint32_t jilqamur_end_section(jilqamur_end *end, const uint8_t *mid, size_t mid_len, bool is_video, bool sends,
                               bool receives, const uint32_t *ssrcs, size_t count);
 
-/* Offers the gathered sections (RFC 3264 5): jilqamur_end_text fetches the text. JILQAMUR_NOT_MADE without an end; else
- * the first that holds of JILQAMUR_OUT_OF_TURN, JILQAMUR_NOT_CORRESPONDING, JILQAMUR_NO_COMMON_ROW and
- * JILQAMUR_NOT_WRITABLE, or JILQAMUR_MEMORY, and end and text stay. */
+/* Offers the gathered sections (RFC 3264 5): jilqamur_end_text fetches the text. JILQAMUR_NOT_MADE without an end,
+ * JILQAMUR_OUT_OF_RANGE where the repairs of a section aren't sound: each repairs another one of its SSRCs, and none is
+ * one of them; else the first that holds of JILQAMUR_OUT_OF_TURN, JILQAMUR_NOT_CORRESPONDING, JILQAMUR_NO_COMMON_ROW
+ * and JILQAMUR_NOT_WRITABLE, or JILQAMUR_MEMORY, and end and text stay. */
 uint32_t jilqamur_end_offer(jilqamur_end *end);
 
 /* Answers an offer of len bytes by the gathered sections (RFC 3264 6): jilqamur_end_text fetches the text.
- * JILQAMUR_NOT_TEXT, JILQAMUR_NOT_MADE without an end; else the first that holds of JILQAMUR_TEXT_UNREADABLE,
- * JILQAMUR_OUT_OF_TURN, JILQAMUR_NOT_MEDIA, JILQAMUR_NOT_CORRESPONDING, JILQAMUR_ROUND, JILQAMUR_NO_COMMON_ROW and
- * JILQAMUR_NOT_WRITABLE, or JILQAMUR_MEMORY, and end and text stay. */
+ * JILQAMUR_NOT_TEXT, JILQAMUR_NOT_MADE without an end, JILQAMUR_OUT_OF_RANGE as above; else the first that holds of
+ * JILQAMUR_TEXT_UNREADABLE, JILQAMUR_OUT_OF_TURN, JILQAMUR_NOT_MEDIA, JILQAMUR_NOT_CORRESPONDING, JILQAMUR_ROUND,
+ * JILQAMUR_NO_COMMON_ROW and JILQAMUR_NOT_WRITABLE, or JILQAMUR_MEMORY, and end and text stay. */
 uint32_t jilqamur_end_answer(jilqamur_end *end, const uint8_t *offer, size_t len);
 
 /* Takes the answer of len bytes to the pending offer (RFC 3264 7). JILQAMUR_NOT_TEXT, JILQAMUR_NOT_MADE without an end;
@@ -470,9 +480,15 @@ uint32_t jilqamur_end_push_sample(jilqamur_end *end, size_t stream, uint64_t tic
                                   const uint8_t *mid, size_t mid_len, const uint8_t *sample, size_t sample_len,
                                   size_t *count);
 
+/* Sends a datagram of len bytes again, as the stream sent it, under the SSRC and the type of its repairs (RFC 4588 4):
+ * the repair is left to be fetched as the only datagram, in place of those before. JILQAMUR_NOT_MADE without an end,
+ * JILQAMUR_NO_STREAM; else the first that holds of JILQAMUR_NO_REPAIR, JILQAMUR_NOT_OWN and JILQAMUR_LIMIT_TOO_SMALL
+ * where two bytes more pass the stream's limit, or JILQAMUR_MEMORY, and nothing has changed. */
+uint32_t jilqamur_end_repair(jilqamur_end *end, size_t stream, const uint8_t *datagram, size_t len);
+
 /* Copies the datagram of this place, counted from 0, to the front of a buffer of len bytes, and writes its length in
  * bytes into needed. JILQAMUR_TOO_SMALL, and the buffer is unchanged; JILQAMUR_NOTHING where there is none of that
- * place. The datagrams stay until the next sample that is not refused. */
+ * place. The datagrams stay until the next sample or repair that is not refused. */
 uint32_t jilqamur_end_datagram(jilqamur_end *end, size_t index, uint8_t *buffer, size_t len, size_t *needed);
 
 /* Takes a datagram of len bytes in: JILQAMUR_OK where a receiving stream took it, whose number is written into stream,

@@ -30,6 +30,8 @@ static const char *const refusals[] = {
     [JILQAMUR_TIME_TOO_LARGE] = "TimeTooLarge",
     [JILQAMUR_LIMIT_TOO_SMALL] = "LimitTooSmall",
     [JILQAMUR_PAYLOAD] = "Payload",
+    [JILQAMUR_NO_REPAIR] = "NoRepair",
+    [JILQAMUR_NOT_OWN] = "NotOwn",
 };
 
 /* Prints what became of a call. */
@@ -80,14 +82,17 @@ static void row(jilqamur_end *end, char **w)
     say(jilqamur_end_row(end, &row, bytes_of(w[5]), strlen(w[5]), bytes_of(format), strlen(format)));
 }
 
-/* MID:KIND:DIRECTION:SSRC,SSRC */
+/* MID:KIND:DIRECTION:SOURCE,SOURCE, each SSRC or SSRC+REPAIR */
 static void section(jilqamur_end *end, char *word)
 {
     char *kind = strchr(word, ':'), *direction = strchr(kind + 1, ':'), *ssrcs = strchr(direction + 1, ':');
     uint32_t named[8];
     size_t count = 0;
-    for (char *at = ssrcs; at && at[1] && count < 8; at = strchr(at + 1, ','))
-        named[count++] = (uint32_t)number(at + 1);
+    for (char *at = ssrcs, *end_of; at && at[1] && count < 8; at = strchr(at + 1, ',')) {
+        named[count++] = (uint32_t)strtoull(at + 1, &end_of, 10);
+        if (*end_of == '+' && jilqamur_end_section_repair(end, named[count - 1], (uint32_t)number(end_of + 1)))
+            exit(1);
+    }
     bool is_video = strncmp(kind, ":video", 6) == 0;
     bool both = strncmp(direction, ":sendrecv", 9) == 0;
     bool sends = both || strncmp(direction, ":sendonly", 9) == 0;
@@ -171,6 +176,22 @@ static void sample(jilqamur_end *end, char **w, size_t words)
     say(answer);
 }
 
+/* repair E N HEX */
+static void repair(jilqamur_end *end, char **w)
+{
+    uint8_t datagram[65536];
+    size_t len = from_hex(w[3]), needed = 0;
+    uint32_t answer = jilqamur_end_repair(end, (size_t)number(w[2]), bytes_of(w[3]), len);
+    if (answer != JILQAMUR_OK) {
+        say(answer);
+        return;
+    }
+    if (jilqamur_end_datagram(end, 0, datagram, sizeof datagram, &needed) != JILQAMUR_OK)
+        exit(1);
+    printf("datagram ");
+    print_bytes(datagram, needed);
+}
+
 static void receive(jilqamur_end *end, char *word)
 {
     size_t stream = 0, len = from_hex(word);
@@ -242,6 +263,8 @@ static void answer_line(jilqamur_end *end, char **w, size_t words)
         open_receiver(end, w, words);
     else if (strcmp(verb, "sample") == 0)
         sample(end, w, words);
+    else if (strcmp(verb, "repair") == 0)
+        repair(end, w);
     else if (strcmp(verb, "receive") == 0)
         receive(end, w[2]);
     else if (strcmp(verb, "poll") == 0)

@@ -41,14 +41,21 @@ fn row(end: &mut End, words: &[&str]) -> Said {
     Ok("ok".into())
 }
 
-/// MID:KIND:DIRECTION:SSRC,SSRC, with the SSRCs in a list of their own.
-fn section<'a>(word: &'a str, ssrcs: &'a mut Vec<u32>) -> Result<Section<'a>, Box<dyn std::error::Error>> {
+/// The SSRCs of a section, and the pairs of one of them and that of its repairs.
+type Sources = (Vec<u32>, Vec<(u32, u32)>);
+
+/// MID:KIND:DIRECTION:SOURCE,SOURCE, each SSRC or SSRC+REPAIR, with the sources in lists of their own.
+fn section<'a>(word: &'a str, sources: &'a mut Sources) -> Result<Section<'a>, Box<dyn std::error::Error>> {
     let parts: Vec<&str> = word.split(':').collect();
     let [mid, kind, direction, named] = parts[..] else {
         return Err("a section has four parts".into());
     };
-    for ssrc in named.split(',') {
-        ssrcs.push(ssrc.parse()?);
+    for source in named.split(',') {
+        let (ssrc, repair) = source.split_once('+').map_or((source, None), |(ssrc, repair)| (ssrc, Some(repair)));
+        sources.0.push(ssrc.parse()?);
+        if let Some(repair) = repair {
+            sources.1.push((ssrc.parse()?, repair.parse()?));
+        }
     }
     let direction = match direction {
         "sendrecv" => Direction::SendRecv,
@@ -57,14 +64,14 @@ fn section<'a>(word: &'a str, ssrcs: &'a mut Vec<u32>) -> Result<Section<'a>, Bo
         _ => Direction::Inactive,
     };
     let kind = if kind == "video" { Kind::Video } else { Kind::Audio };
-    Ok(Section { mid, kind, direction, ssrcs })
+    Ok(Section { mid, kind, direction, ssrcs: &sources.0, repairs: &sources.1 })
 }
 
 fn exchange(end: &mut End, offer: Option<&str>, words: &[&str]) -> Said {
-    let mut ssrcs = vec![Vec::new(); words.len()];
+    let mut sources = vec![Sources::default(); words.len()];
     let sections = words
         .iter()
-        .zip(&mut ssrcs)
+        .zip(&mut sources)
         .map(|(word, named)| section(word, named))
         .collect::<Result<Vec<_>, _>>()?;
     let text = match offer {
@@ -136,6 +143,10 @@ fn answer(end: &mut End, verb: &str, words: &[&str]) -> Said {
         "send" => return send(end, words),
         "open" => return open(end, words),
         "sample" => return sample(end, words),
+        "repair" => {
+            let repair = end.repair(words[0].parse()?, &from_hex(words[1]))?;
+            return Ok(format!("datagram {}", hex(&repair)));
+        }
         "receive" => return receive(end, &from_hex(words[0])),
         "poll" => return poll(end, words[0].parse()?),
         _ => return Err("no such line".into()),

@@ -13,7 +13,7 @@ fn opus_end(session: u64) -> Result<End, EndError> {
 
 /// One section, `0`, of audio in both directions, with these SSRCs.
 fn audio(ssrcs: &[u32]) -> [Section<'_>; 1] {
-    [Section { mid: "0", kind: Kind::Audio, direction: Direction::SendRecv, ssrcs }]
+    [Section { mid: "0", kind: Kind::Audio, direction: Direction::SendRecv, ssrcs, repairs: &[] }]
 }
 
 /// Takes a datagram from the network in, and prints the frames that are due then.

@@ -25,7 +25,7 @@ fn made(session: u64) -> Result<End, EndError> {
 }
 
 fn section(ssrcs: &[u32]) -> Section<'_> {
-    Section { mid: "0", kind: Kind::Audio, direction: Direction::SendRecv, ssrcs }
+    Section { mid: "0", kind: Kind::Audio, direction: Direction::SendRecv, ssrcs, repairs: &[] }
 }
 
 /// Prints the agreed sections, their rows, and the SSRCs that the other end names.

@@ -188,6 +188,20 @@ impl End {
         Ok(Datagrams { end: self, next: 0, count })
     }
 
+    /// A datagram that a stream sent, sent again under the SSRC and the type of its repairs (RFC 4588 4).
+    ///
+    /// # Errors
+    /// `NotMade`, `NoStream`; else the first that holds of `NoRepair`, `NotOwn` and `LimitTooSmall`, or `Memory`.
+    /// Nothing has changed.
+    pub fn repair(&mut self, stream: usize, datagram: &[u8]) -> Result<Vec<u8>, EndError> {
+        // SAFETY: the handle is open, and pointer and length are those of one slice.
+        done(unsafe { sys::jilqamur_end_repair(&mut self.0, stream, datagram.as_ptr(), datagram.len()) })?;
+        Ok(fetched(|buffer, len, needed| {
+            // SAFETY: the handle is open, and pointer and length are those of one slice.
+            unsafe { sys::jilqamur_end_datagram(&mut self.0, 0, buffer, len, needed) }
+        }))
+    }
+
     /// Takes a datagram in, and says what it is.
     ///
     /// # Errors

@@ -52,6 +52,10 @@ pub enum EndError {
     LimitTooSmall,
     /// The codec refuses the sample or the payload.
     Payload,
+    /// The stream has no pair for repairs, or sends redundancy.
+    NoRepair,
+    /// The datagram isn't one that the stream sent.
+    NotOwn,
 }
 
 impl EndError {
@@ -63,12 +67,14 @@ impl EndError {
             NoCommonRow, NoSection, RowNotAgreed, RowDiffers, WrongDirection, SsrcNotNamed, AlreadyOpen, StreamFailed,
             TimeTooLarge, LimitTooSmall, Payload,
         ];
+        const FROM_REPAIRS: [EndError; 2] = [NoRepair, NotOwn];
         match answer {
             1 => Memory,
             10 => OutOfRange,
             11 => NotMade,
             14 => NoStream,
             15..=33 => FROM_ROWS[answer as usize - 15],
+            47..=48 => FROM_REPAIRS[answer as usize - 47],
             other => unreachable!("the library answers {other}"),
         }
     }
@@ -101,6 +107,8 @@ impl fmt::Display for EndError {
             TimeTooLarge => "the time is too large",
             LimitTooSmall => "a datagram would pass the limit",
             Payload => "the payload is refused",
+            NoRepair => "the stream has no pair for repairs",
+            NotOwn => "the stream did not send this datagram",
         })
     }
 }

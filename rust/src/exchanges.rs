@@ -28,6 +28,10 @@ impl End {
                 Direction::SendRecv => (true, true),
                 Direction::Inactive => (false, false),
             };
+            for &(ssrc, repair) in section.repairs {
+                // SAFETY: the handle is open.
+                done(unsafe { sys::jilqamur_end_section_repair(&mut self.0, ssrc, repair) })?;
+            }
             // SAFETY: the handle is open, and pointers and lengths are those of one slice each.
             done(unsafe {
                 sys::jilqamur_end_section(
@@ -56,7 +60,8 @@ impl End {
     /// The text of an offer of these sections (RFC 3264 5); it is then pending.
     ///
     /// # Errors
-    /// `NotMade`, `OutOfTurn`, `NotCorresponding`, `NoCommonRow`, `NotWritable` or `Memory`; the end is unchanged.
+    /// `NotMade`, `OutOfRange` where the repairs of a section aren't sound, `OutOfTurn`, `NotCorresponding`,
+    /// `NoCommonRow`, `NotWritable` or `Memory`; the end is unchanged.
     pub fn offer(&mut self, sections: &[Section<'_>]) -> Result<String, EndError> {
         self.sections(sections)?;
         // SAFETY: the handle is open.
@@ -67,8 +72,8 @@ impl End {
     /// The text of the answer to an offer, of these sections (RFC 3264 6); it is then agreed.
     ///
     /// # Errors
-    /// `NotMade`, `TextUnreadable`, `OutOfTurn`, `NotMedia`, `NotCorresponding`, `Round`, `NoCommonRow`, `NotWritable`
-    /// or `Memory`; the end is unchanged.
+    /// `NotMade`, `OutOfRange` where the repairs of a section aren't sound, `TextUnreadable`, `OutOfTurn`, `NotMedia`,
+    /// `NotCorresponding`, `Round`, `NoCommonRow`, `NotWritable` or `Memory`; the end is unchanged.
     pub fn answer(&mut self, offer: &str, sections: &[Section<'_>]) -> Result<String, EndError> {
         self.sections(sections)?;
         // SAFETY: the handle is open, and pointer and length are those of one slice.

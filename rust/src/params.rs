@@ -107,6 +107,9 @@ pub struct Section<'a> {
     pub direction: Direction,
     /// The SSRCs that the end sends under.
     pub ssrcs: &'a [u32],
+    /// Pairs of one of them and the SSRC under which its datagrams are sent again (RFC 4588 8.3). Each repairs another
+    /// one of `ssrcs`, and none is one of them.
+    pub repairs: &'a [(u32, u32)],
 }
 
 /// A section that an end agreed on.

@@ -156,6 +156,7 @@ extern "C" {
     pub(crate) fn jilqamur_end_default_rows(end: *mut Handle) -> u32;
     pub(crate) fn jilqamur_end_extension(end: *mut Handle, id: u8, uri: *const u8, len: usize) -> u32;
     pub(crate) fn jilqamur_end_make(end: *mut Handle, session: u64) -> u32;
+    pub(crate) fn jilqamur_end_section_repair(end: *mut Handle, ssrc: u32, repair: u32) -> u32;
     pub(crate) fn jilqamur_end_section(
         end: *mut Handle,
         mid: *const u8,
@@ -221,6 +222,7 @@ extern "C" {
         sample_len: usize,
         count: *mut usize,
     ) -> u32;
+    pub(crate) fn jilqamur_end_repair(end: *mut Handle, stream: usize, datagram: *const u8, len: usize) -> u32;
     pub(crate) fn jilqamur_end_datagram(
         end: *mut Handle,
         index: usize,

@@ -1,6 +1,5 @@
-//! Headers, replay windows, payload formats, streams and ends for C programs: exports over `jilqamur_media`,
-//! `jilqamur_media`, `jilqamur_ends`, as `include/jilqamur.h`
-//! declares them.
+//! Headers, replay windows, payload formats, streams and ends for C programs: exports over `jilqamur_media` and
+//! `jilqamur_ends`, as `include/jilqamur.h` declares them.
 #![tactic(auto)]
 
 ghost use Rattle.std.specs.Prelude.{◌≡◌, ◌≢◌, ◌++◌, length, drop, Some, None, IsSome, MatchOption};

@@ -7,7 +7,7 @@ ghost use Rattle.jilqamur_media.specs.Handles.{AtObject, answer_of};
 ghost use Rattle.jilqamur_ends.specs.HeldEnds.{empty_held_end, with_draft};
 ghost use Rattle.jilqamur_ends.specs.DraftedRows.{row_of, row_outcome};
 ghost use Rattle.jilqamur_ends.specs.Drafts.{extension_outcome, section_of, section_outcome};
-ghost use Rattle.jilqamur_ends.specs.Drafts.{with_extension, with_row, with_rows, with_section};
+ghost use Rattle.jilqamur_ends.specs.Drafts.{with_extension, with_repair, with_row, with_rows, with_section};
 ghost use Rattle.jilqamur_ends.specs.Making.{make_outcome, made, without_draft};
 
 use jilqamur_ends::{EndHandle, WireRow};
@@ -95,6 +95,18 @@ pub extern "C" fn jilqamur_end_make(alloc: Global, end: &mut EndHandle, session:
     jilqamur_ends::make(alloc, end, session)
 }
 
+/// A pair of an SSRC and that of its repairs more in the next section.
+#[unsafe(no_mangle)]
+pub extern "C" fn jilqamur_end_section_repair(end: &mut EndHandle, ssrc: u32, repair: u32) -> u32
+    ensures outcome { AtObject end.old.place.object end.new.place.object result
+        (λ p after. result ≢ memory → result ≡ ok) }
+    ensures added { AtObject end.old.place.object end.new.place.object result
+        (λ p after. result ≡ ok → after ≡ with_draft p (with_repair p.draft ssrc repair)) }
+    ensures unchanged { result ≢ ok → end.new.place.object ≡ end.old.place.object }
+{
+    jilqamur_ends::add_repair(end, ssrc, repair)
+}
+
 /// A section more in the next offer or answer.
 #[unsafe(no_mangle)]
 pub extern "C" fn jilqamur_end_section(
@@ -110,7 +122,7 @@ pub extern "C" fn jilqamur_end_section(
         (λ p after. result ≢ memory → result ≡ section_outcome mid.now) }
     ensures added { AtObject end.old.place.object end.new.place.object result
         (λ p after. result ≡ ok → after
-        ≡ with_draft p (with_section p.draft (section_of mid.now is_video sends receives ssrcs.now))) }
+        ≡ with_draft p (with_section p.draft (section_of mid.now is_video sends receives ssrcs.now p.draft.repairs))) }
     ensures unchanged { result ≢ ok → end.new.place.object ≡ end.old.place.object }
 {
     jilqamur_ends::add_section(alloc, end, mid, is_video, sends, receives, ssrcs)

@@ -5,11 +5,11 @@ ghost use Rattle.std.specs.List.{slice_get};
 ghost use Rattle.jilqamur_media.specs.Codes.{ok, memory, nothing, closed};
 ghost use Rattle.jilqamur_media.specs.Handles.{AtObject};
 ghost use Rattle.jilqamur_ends.specs.HeldEnds.{behind_end, behind_sample};
-ghost use Rattle.jilqamur_ends.specs.Answers.{WithText};
+ghost use Rattle.jilqamur_ends.specs.Answers.{AtEnd, WithText};
 ghost use Rattle.jilqamur_media.specs.Copies.{IsFetched};
 ghost use Rattle.jilqamur_media.specs.Inboxes.{holding_of};
 ghost use Rattle.jilqamur_ends.specs.Params.{params_of};
-ghost use Rattle.jilqamur_ends.specs.Sending.{AnswersSender, AnswersSample};
+ghost use Rattle.jilqamur_ends.specs.Sending.{AnswersRepair, AnswersSender, AnswersSample};
 ghost use Rattle.jilqamur_ends.specs.Receiving.{AnswersReceiver};
 
 use jilqamur_ends::{EndHandle, WireStream};
@@ -84,6 +84,25 @@ pub extern "C" fn jilqamur_end_push_sample(
         (λ p after. after ≡ behind_sample p after.end after.datagrams) }
 {
     jilqamur_ends::push_sample(end, stream, ticks, values, mid, sample, count)
+}
+
+/// Sends a datagram again.
+#[unsafe(no_mangle)]
+pub extern "C" fn jilqamur_end_repair(
+    alloc: Global,
+    end: &mut EndHandle,
+    stream: usize,
+    datagram: &[u8],
+) -> u32
+    ensures answer { AtObject end.old.place.object end.new.place.object result
+        (λ p after. AtEnd p.end after.end result
+        (λ e now. AnswersRepair e stream datagram.now result after.datagrams now)) }
+    ensures kept { AtObject end.old.place.object end.new.place.object result
+        (λ p after. result ≢ ok → after.datagrams ≡ p.datagrams) }
+    ensures rest { AtObject end.old.place.object end.new.place.object result
+        (λ p after. after ≡ behind_sample p after.end after.datagrams) }
+{
+    jilqamur_ends::repair(alloc, end, stream, datagram)
 }
 
 /// Copies a datagram that is left.

@@ -13,25 +13,30 @@ use Rattle.rtp_media_sections.specs.Rows.{Row}
 use Rattle.rtp_media_sections.specs.Sections.{Wanted}
 use Rattle.jilqamur_media.specs.Codes.{ok, not_text, out_of_range}
 
--- The rows and the map of the next end, and the sections of the next offer or answer.
+-- The rows and the map of the next end, the sections of the next offer or answer, and the pairs of an SSRC and that of
+-- its repairs of the next section.
 pub record DraftState : Type 0 where
   pub rows : List Row
   pub exts : Numbering
   pub sections : List Wanted
+  pub repairs : List (ℕ × ℕ)
 
 -- One without any.
 abbrev pub empty_draft : DraftState
-empty_draft = record { rows = []; exts = empty_map; sections = [] }
+empty_draft = record { rows = []; exts = empty_map; sections = []; repairs = [] }
 
--- One with a row more, with these rows more, and with a section more.
+-- One with a row more, with these rows more, with a pair more, and with a section more, which uses the pairs up.
 abbrev pub with_row : DraftState → Row → DraftState
 with_row d row = record d { rows = d.rows ++ row ∷ [] }
 
 abbrev pub with_rows : DraftState → List Row → DraftState
 with_rows d rows = record d { rows = d.rows ++ rows }
 
+abbrev pub with_repair : DraftState → ℕ → ℕ → DraftState
+with_repair d ssrc repair = record d { repairs = d.repairs ++ (ssrc, repair) ∷ [] }
+
 abbrev pub with_section : DraftState → Wanted → DraftState
-with_section d section = record d { sections = d.sections ++ section ∷ [] }
+with_section d section = record d { sections = d.sections ++ section ∷ []; repairs = [] }
 
 -- One that gives a header extension this number.
 abbrev pub with_extension : DraftState → ℕ → List ℕ → DraftState
@@ -49,10 +54,15 @@ abbrev pub kind_of : Bool → MediaKind
 kind_of false = Audio
 kind_of true = Video
 
--- A section of this name, which carries that and flows so.
-abbrev pub section_of : List ℕ → Bool → Bool → Bool → List ℕ → Wanted
-section_of mid is_video sends receives ssrcs =
-    record { mid = name_of 16 mid; kind = kind_of is_video; dir = flow sends receives; ssrcs = ssrcs }
+-- A section of this name, which carries that and flows so, with these pairs.
+abbrev pub section_of : List ℕ → Bool → Bool → Bool → List ℕ → List (ℕ × ℕ) → Wanted
+section_of mid is_video sends receives ssrcs repairs = record {
+  mid = name_of 16 mid;
+  kind = kind_of is_video;
+  dir = flow sends receives;
+  ssrcs = ssrcs;
+  repairs = repairs;
+}
 
 -- A section's name is a text.
 abbrev pub section_outcome : List ℕ → ℕ

@@ -7,11 +7,12 @@ use Rattle.rtp_media_ends.specs.Exchanges.{with_offer}
 use Rattle.rtp_media_ends.specs.Offers.{Accepts, Answers, offer_of}
 use Rattle.rtp_media_ends.specs.Refusals.{MayAccept, MayAnswer, Refuses, RefusesAccept, RefusesAnswer}
 use Rattle.rtp_media_ends.specs.Refusals.{refusal_of_offer}
-use Rattle.rtp_media_ends.specs.Sections.{Wanted}
+use Rattle.rtp_media_ends.specs.Stops.{Where}
+use Rattle.rtp_media_sections.specs.Sections.{Wanted, are_sound}
 use Rattle.rtp_media_ends.specs.Ends.{EndState, with_exchange}
 use Rattle.jilqamur_media.specs.Codes.{ok, memory, text_unreadable, out_of_turn, not_media}
 use Rattle.jilqamur_media.specs.Codes.{not_corresponding}
-use Rattle.jilqamur_media.specs.Codes.{round, no_common_row, not_writable, nothing}
+use Rattle.jilqamur_media.specs.Codes.{round, no_common_row, not_writable, nothing, out_of_range}
 
 -- The number of a refused exchange.
 abbrev pub exchange_code : ExchangeError → ℕ
@@ -37,11 +38,16 @@ pub record IsRefusedAs (e : EndState) (names : ExchangeError → Type 0) (result
   pub number : result ≡ exchange_code error
   pub stays : after ≡ e
 
+-- Sections whose repairs don't fit their SSRCs are refused first.
+abbrev pub AreUnsound : EndState → ℕ → EndState → Type 0
+AreUnsound e result after = (result ≡ out_of_range) × (after ≡ e)
+
 -- What an offer of these sections answers.
 abbrev pub AnswersOffer : EndState → List Wanted → ℕ → List ℕ → EndState → Type 0
-AnswersOffer e sections result text after =
-    ((result ≡ ok) × Offered e sections text after)
-    ⊎ IsRefusedAs e (λ error. Refuses error (refusal_of_offer e.exchange sections)) result after
+AnswersOffer e sections result text after = Where (are_sound sections)
+    (((result ≡ ok) × Offered e sections text after)
+    ⊎ IsRefusedAs e (λ error. Refuses error (refusal_of_offer e.exchange sections)) result after)
+    (AreUnsound e result after)
 
 -- An answer's text is left, where nothing refuses it.
 pub record Answered (e : EndState) (offer : List ℕ) (sections : List Wanted) (text : List ℕ) (after : EndState)
@@ -52,9 +58,10 @@ pub record Answered (e : EndState) (offer : List ℕ) (sections : List Wanted) (
 
 -- What answering this offer's text answers.
 abbrev pub AnswersAnswer : EndState → List ℕ → List Wanted → ℕ → List ℕ → EndState → Type 0
-AnswersAnswer e offer sections result text after =
-    ((result ≡ ok) × Answered e offer sections text after)
-    ⊎ IsRefusedAs e (RefusesAnswer e.exchange offer sections) result after
+AnswersAnswer e offer sections result text after = Where (are_sound sections)
+    (((result ≡ ok) × Answered e offer sections text after)
+    ⊎ IsRefusedAs e (RefusesAnswer e.exchange offer sections) result after)
+    (AreUnsound e result after)
 
 -- An answer's text is taken, where nothing refuses it.
 pub record Accepted (e : EndState) (answer : List ℕ) (after : EndState) : Type 0 where

@@ -1,5 +1,6 @@
 -- What calls of sending streams answer.
-use Rattle.std.specs.Prelude.{ℕ, ◌≡◌, ◌≢◌, ◌==◌, Bool, List, length, Option, Some, None, if◌then◌else◌}
+use Rattle.std.specs.Prelude.{ℕ, ◌≡◌, ◌≢◌, ◌==◌, Bool, List, [], ◌∷◌, length, Option, Some, None}
+use Rattle.std.specs.Prelude.{if◌then◌else◌, Result, Ok, Err}
 use Rattle.rtp_wire.specs.Name.{name_of}
 use Rattle.rtp_wire_values.specs.Time.{Time}
 use Rattle.rtp_wire.specs.declared.ExtensionValues.{ExtensionValues}
@@ -8,7 +9,10 @@ use Rattle.rtp_media_ends.specs.Ends.{EndState, agreed_red, after_open_sender, r
 use Rattle.rtp_media_ends.specs.Ends.{is_sender_at, sender_at, with_sender}
 use Rattle.rtp_media_ends.specs.Params.{is_sound_params}
 use Rattle.rtp_media_ends.specs.declared.StreamParams.{StreamParams}
-use Rattle.jilqamur_media.specs.Codes.{ok, memory, out_of_range, no_stream}
+use Rattle.rtp_media_streams.specs.Repairing.{repair, with_repair}
+use Rattle.rtp_media_streams.specs.declared.errors.RepairError.{RepairError}
+use Rattle.rtp_media_streams.specs.declared.errors.RepairError.TheVariants as repair_error
+use Rattle.jilqamur_media.specs.Codes.{ok, memory, out_of_range, no_stream, no_repair, not_own, limit_too_small}
 use Rattle.jilqamur_media.specs.Values.{values_given}
 use Rattle.jilqamur_media.specs.declared.values.WireValues.{WireValues}
 use Rattle.jilqamur_media.specs.StreamAnswers.{sample_outcome}
@@ -62,3 +66,30 @@ HasNoSender e result after = (result ≡ no_stream) × (after ≡ e)
 abbrev pub AnswersSample : EndState → ℕ → ℕ → WireValues → List ℕ → List ℕ → ℕ → List (List ℕ) → EndState → Type 0
 AnswersSample e n ticks values mid sample result datagrams after = Where (is_sender_at e n)
     (Sends e n (time_at e n ticks) (values_of values mid) sample result datagrams after) (HasNoSender e result after)
+
+-- The number of a refused repair.
+abbrev pub repair_code : RepairError → ℕ
+repair_code repair_error.NoRepair = no_repair
+repair_code repair_error.NotOwn = not_own
+repair_code repair_error.LimitTooSmall = limit_too_small
+repair_code repair_error.Memory = memory
+
+abbrev pub repair_outcome : Result (List ℕ) RepairError → ℕ
+repair_outcome (Ok datagram) = ok
+repair_outcome (Err error) = repair_code error
+
+abbrev pub datagrams_of : Result (List ℕ) RepairError → List (List ℕ)
+datagrams_of (Ok datagram) = datagram ∷ []
+datagrams_of (Err error) = []
+
+pub record Repairs (e : EndState) (n : ℕ) (datagram : List ℕ) (result : ℕ) (datagrams : List (List ℕ))
+    (after : EndState) : Type 0 where
+  pub outcome : result ≢ memory → result ≡ repair_outcome (repair (sender_at e n) datagram)
+  pub made : result ≡ ok → datagrams ≡ datagrams_of (repair (sender_at e n) datagram)
+  pub is_behind : result ≡ ok → after ≡ with_sender e n (with_repair (sender_at e n))
+  pub stays : result ≢ ok → after ≡ e
+
+-- What a repair of a datagram answers.
+abbrev pub AnswersRepair : EndState → ℕ → List ℕ → ℕ → List (List ℕ) → EndState → Type 0
+AnswersRepair e n datagram result datagrams after = Where (is_sender_at e n)
+    (Repairs e n datagram result datagrams after) (HasNoSender e result after)

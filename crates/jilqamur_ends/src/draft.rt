@@ -5,7 +5,8 @@ ghost use Rattle.rtp_wire.specs.Maps.{empty_map};
 ghost use Rattle.sdp_formats_rows.specs.DefaultRows.{default_rows};
 ghost use Rattle.jilqamur_media.specs.Codes.{ok, memory};
 ghost use Rattle.jilqamur_ends.specs.DraftedRows.{row_of, row_outcome};
-ghost use Rattle.jilqamur_ends.specs.Drafts.{empty_draft, with_row, with_rows, with_section, with_extension};
+ghost use Rattle.jilqamur_ends.specs.Drafts.{empty_draft, with_repair, with_row, with_rows, with_section};
+ghost use Rattle.jilqamur_ends.specs.Drafts.{with_extension};
 ghost use Rattle.jilqamur_ends.specs.Drafts.{kind_of, section_of, section_outcome, extension_outcome};
 
 use crate::row::{WireRow, row_of};
@@ -17,11 +18,13 @@ use std::alloc::{AllocError, Global};
 use std::marker::Model;
 use std::mem;
 
-/// The rows and the map of header extensions of the next end, and the sections of the next offer or answer.
+/// The rows and the map of header extensions of the next end, the sections of the next offer or answer, and the pairs
+/// of an SSRC and that of its repairs of the next section.
 pub struct Draft {
     rows: Vec<PayloadParams>,
     exts: ExtensionMap,
     sections: Vec<SectionSpec>,
+    repairs: Vec<(Ssrc, Ssrc)>,
 }
 
 /// Written by hand so that crates that drop this type need no proof about its fields.
@@ -31,6 +34,7 @@ impl Drop for Draft {
             rows: _rows,
             exts: _exts,
             sections: _sections,
+            repairs: _repairs,
         } = self;
     }
 }
@@ -44,7 +48,12 @@ impl Model for Draft {
 
     ghost coded = { Prim.hlevel (codes, window_code) };
 
-    ghost view = { λ d. record { rows = d.rows.items; exts = d.exts; sections = d.sections.items } };
+    ghost view = { λ d. record {
+      rows = d.rows.items;
+      exts = d.exts;
+      sections = d.sections.items;
+      repairs = d.repairs.items;
+    } };
 }
 
 fn kind_of(is_video: bool) -> MediaKind
@@ -72,6 +81,7 @@ impl Draft {
             rows: Vec::new(alloc),
             exts: ExtensionMap::empty(),
             sections: Vec::new(alloc),
+            repairs: Vec::new(alloc),
         }
     }
 
@@ -135,8 +145,28 @@ impl Draft {
         }
     }
 
-    /// Puts a section behind those of the next offer or answer, and answers `OK`; or `NOT_TEXT`, or `MEMORY`, and
-    /// nothing has changed.
+    /// Lets an SSRC repair another one in the next section (RFC 4588 8.3), and answers `OK`; or `MEMORY`, and nothing
+    /// has changed.
+    pub fn add_repair(&mut self, ssrc: u32, repair: u32) -> u32
+        ensures outcome { result ≢ memory → result ≡ ok }
+        ensures added { result ≡ ok → self.new ≡ with_repair self.old ssrc repair }
+        ensures unchanged { result ≢ ok → self.new ≡ self.old }
+    {
+        match self.repairs.push((Ssrc::from(ssrc), Ssrc::from(repair))) {
+            Ok(()) => codes::OK,
+            Err(_) => codes::MEMORY,
+        }
+    }
+
+    /// The pairs for the next section.
+    pub fn repairs(&self) -> Result<Vec<(Ssrc, Ssrc)>, AllocError>
+        ensures { IfOk result (λ pairs. pairs.items ≡ self.now.repairs) }
+    {
+        Ok(self.repairs.clone()?)
+    }
+
+    /// Puts a section behind those of the next offer or answer, with the repairs that are there, which are used up, and
+    /// answers `OK`; or `NOT_TEXT`, or `MEMORY`, and nothing has changed.
     pub fn add_section(
         &mut self,
         alloc: Global,
@@ -148,13 +178,13 @@ impl Draft {
     ) -> u32
         ensures outcome { result ≢ memory → result ≡ section_outcome mid.now }
         ensures added { result ≡ ok → self.new ≡ with_section self.old
-            (section_of mid.now is_video sends receives ssrcs.now) }
+            (section_of mid.now is_video sends receives ssrcs.now self.old.repairs) }
         ensures unchanged { result ≢ ok → self.new ≡ self.old }
     {
         let Some(mid) = text_in(mid) else {
             return codes::NOT_TEXT;
         };
-        let Ok(ssrcs) = ssrcs_of(alloc, ssrcs) else {
+        let (Ok(ssrcs), Ok(repairs)) = (ssrcs_of(alloc, ssrcs), self.repairs()) else {
             return codes::MEMORY;
         };
         let section = SectionSpec {
@@ -162,9 +192,13 @@ impl Draft {
             kind: kind_of(is_video),
             dir: flow(sends, receives),
             ssrcs,
+            repairs,
         };
         match self.sections.push(section) {
-            Ok(()) => codes::OK,
+            Ok(()) => {
+                self.repairs = Vec::new(alloc);
+                codes::OK
+            }
             Err(_) => codes::MEMORY,
         }
     }

@@ -7,7 +7,7 @@ ghost use Rattle.jilqamur_media.specs.Codes.{ok, memory};
 ghost use Rattle.jilqamur_media.specs.Handles.{AtObject};
 ghost use Rattle.jilqamur_ends.specs.DraftedRows.{row_of, row_outcome};
 ghost use Rattle.jilqamur_ends.specs.Drafts.{extension_outcome, section_of, section_outcome};
-ghost use Rattle.jilqamur_ends.specs.Drafts.{with_extension, with_row, with_rows, with_section};
+ghost use Rattle.jilqamur_ends.specs.Drafts.{with_extension, with_repair, with_row, with_rows, with_section};
 ghost use Rattle.jilqamur_ends.specs.HeldEnds.{with_draft};
 
 use crate::place::EndHandle;
@@ -64,8 +64,24 @@ pub fn set_extension(alloc: Global, end: &mut EndHandle, id: u8, uri: &[u8]) -> 
     held.draft.set_extension(alloc, id, uri)
 }
 
-/// Puts a section behind those of the next offer or answer, and answers `OK`; or `NOT_TEXT`, or `MEMORY`, and
-/// nothing has changed.
+/// Lets an SSRC repair another one in the next section (RFC 4588 8.3), and answers `OK`; or `MEMORY`, and nothing has
+/// changed.
+pub fn add_repair(end: &mut EndHandle, ssrc: u32, repair: u32) -> u32
+    ensures outcome { AtObject end.old.place.object end.new.place.object result
+        (λ p after. result ≢ memory → result ≡ ok) }
+    ensures added { AtObject end.old.place.object end.new.place.object result
+        (λ p after. result ≡ ok → after ≡ with_draft p (with_repair p.draft ssrc repair)) }
+    ensures unchanged { result ≢ ok → end.new.place.object ≡ end.old.place.object }
+{
+    if !end.is_open() {
+        return codes::CLOSED;
+    }
+    let held = end.place.held();
+    held.draft.add_repair(ssrc, repair)
+}
+
+/// Puts a section behind those of the next offer or answer, with the repairs that are there, which are used up, and
+/// answers `OK`; or `NOT_TEXT`, or `MEMORY`, and nothing has changed.
 pub fn add_section(
     alloc: Global,
     end: &mut EndHandle,
@@ -79,7 +95,7 @@ pub fn add_section(
         (λ p after. result ≢ memory → result ≡ section_outcome mid.now) }
     ensures added { AtObject end.old.place.object end.new.place.object result
         (λ p after. result ≡ ok → after
-        ≡ with_draft p (with_section p.draft (section_of mid.now is_video sends receives ssrcs.now))) }
+        ≡ with_draft p (with_section p.draft (section_of mid.now is_video sends receives ssrcs.now p.draft.repairs))) }
     ensures unchanged { result ≢ ok → end.new.place.object ≡ end.old.place.object }
 {
     if !end.is_open() {

@@ -12,6 +12,7 @@ ghost use Rattle.jilqamur_ends.specs.Exchanges.{exchange_code};
 use crate::place::EndHandle;
 use jilqamur_media::{codes, text_in};
 use rtp_media_ends::ExchangeError;
+use rtp_media_sections::are_sound;
 use std::alloc::Global;
 
 /// The number of a refused exchange.
@@ -31,8 +32,8 @@ fn exchange_code(error: &ExchangeError) -> u32
 }
 
 /// Offers the gathered sections, which are used up, and answers `OK`: the text is left to be fetched. `NOT_MADE`
-/// without an end; else the first that holds of `OUT_OF_TURN`, `NOT_CORRESPONDING`, `NO_COMMON_ROW` and
-/// `NOT_WRITABLE`, or `MEMORY`, and end and text stay.
+/// without an end, `OUT_OF_RANGE` where the repairs of one don't fit its SSRCs; else the first that holds of
+/// `OUT_OF_TURN`, `NOT_CORRESPONDING`, `NO_COMMON_ROW` and `NOT_WRITABLE`, or `MEMORY`, and end and text stay.
 pub fn offer(alloc: Global, end: &mut EndHandle) -> u32
     ensures answer { AtObject end.old.place.object end.new.place.object result
         (λ p after. AtEnd p.end after.end result
@@ -50,6 +51,9 @@ pub fn offer(alloc: Global, end: &mut EndHandle) -> u32
     let Some(end) = &mut held.end else {
         return codes::NOT_MADE;
     };
+    if !are_sound(sections.as_slice()) {
+        return codes::OUT_OF_RANGE;
+    }
     match end.offer(sections) {
         Ok(offer) => {
             held.text = offer.into_bytes();
@@ -60,9 +64,9 @@ pub fn offer(alloc: Global, end: &mut EndHandle) -> u32
 }
 
 /// Answers an offer by the gathered sections, which are used up, and answers `OK`: the text is left to be fetched.
-/// `NOT_TEXT` for bytes that aren't UTF-8, `NOT_MADE` without an end; else the first that holds of
-/// `TEXT_UNREADABLE`, `OUT_OF_TURN`, `NOT_MEDIA`, `NOT_CORRESPONDING`, `ROUND`, `NO_COMMON_ROW` and
-/// `NOT_WRITABLE`, or `MEMORY`, and end and text stay.
+/// `NOT_TEXT` for bytes that aren't UTF-8, `NOT_MADE` without an end, `OUT_OF_RANGE` where the repairs of a section
+/// don't fit its SSRCs; else the first that holds of `TEXT_UNREADABLE`, `OUT_OF_TURN`, `NOT_MEDIA`,
+/// `NOT_CORRESPONDING`, `ROUND`, `NO_COMMON_ROW` and `NOT_WRITABLE`, or `MEMORY`, and end and text stay.
 pub fn answer(alloc: Global, end: &mut EndHandle, offer: &[u8]) -> u32
     ensures answer { AtObject end.old.place.object end.new.place.object result
         (λ p after. WithText offer.now p.end after.end result
@@ -83,6 +87,9 @@ pub fn answer(alloc: Global, end: &mut EndHandle, offer: &[u8]) -> u32
     let Some(end) = &mut held.end else {
         return codes::NOT_MADE;
     };
+    if !are_sound(sections.as_slice()) {
+        return codes::OUT_OF_RANGE;
+    }
     match end.answer(offer, sections) {
         Ok(answer) => {
             held.text = answer.into_bytes();

@@ -18,7 +18,7 @@ mod sending;
 
 pub use agreed::WireSection;
 pub use draft::Draft;
-pub use drafts::{add_default_rows, add_row, add_section, set_extension};
+pub use drafts::{add_default_rows, add_repair, add_row, add_section, set_extension};
 pub use exchanging::{accept, answer, offer, withdraw};
 pub use held_end::HeldEnd;
 pub use making::make;
@@ -26,4 +26,4 @@ pub use params::WireStream;
 pub use place::{EndHandle, EndPlace};
 pub use receiving::{drain, open_receiver, poll, receive};
 pub use row::WireRow;
-pub use sending::{open_sender, push_sample};
+pub use sending::{open_sender, push_sample, repair};

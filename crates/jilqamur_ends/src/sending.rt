@@ -1,21 +1,21 @@
 //! Sending streams: samples that become datagrams.
 //! Each call answers `CLOSED` at a closed handle, and changes nothing then.
 
-ghost use Rattle.std.specs.Prelude.{◌≡◌, ◌≢◌, length};
+ghost use Rattle.std.specs.Prelude.{◌≡◌, ◌≢◌, ◌∷◌, [], length, IfOk};
 ghost use Rattle.jilqamur_media.specs.Codes.{ok, memory, closed};
 ghost use Rattle.jilqamur_media.specs.Handles.{AtObject};
 ghost use Rattle.jilqamur_ends.specs.Answers.{AtEnd, WithText};
 ghost use Rattle.jilqamur_ends.specs.HeldEnds.{behind_end, behind_sample};
 ghost use Rattle.jilqamur_ends.specs.Params.{params_of};
-ghost use Rattle.jilqamur_ends.specs.Sending.{AnswersSender, AnswersSample, mid_of};
+ghost use Rattle.jilqamur_ends.specs.Sending.{AnswersRepair, AnswersSender, AnswersSample, mid_of, repair_code};
 
 use crate::params::{WireStream, params_of};
 use crate::place::EndHandle;
 use crate::refusals::open_code;
 use jilqamur_media::{WireValues, codes, sample_code, text_in};
-use rtp_media_ends::{End, StreamParams};
+use rtp_media_ends::{Datagram, End, RepairError, StreamParams};
 use rtp_wire::{MediaTime, Mid, Pt, Ssrc};
-use std::alloc::Global;
+use std::alloc::{AllocError, Global};
 
 fn mid_of(text: &str) -> Option<Mid>
     ensures { result ≡ mid_of text.now }
@@ -139,5 +139,62 @@ pub fn push_sample(
             codes::OK
         }
         Err(error) => sample_code(error),
+    }
+}
+
+/// The number of a refused repair.
+fn repair_code(error: RepairError) -> u32
+    ensures { result ≡ repair_code error }
+{
+    match error {
+        RepairError::NoRepair => codes::NO_REPAIR,
+        RepairError::NotOwn => codes::NOT_OWN,
+        RepairError::LimitTooSmall => codes::LIMIT_TOO_SMALL,
+        RepairError::Memory => codes::MEMORY,
+    }
+}
+
+/// A list of one datagram.
+fn one(alloc: Global, datagram: Datagram) -> Result<Vec<Datagram>, AllocError>
+    ensures { IfOk result (λ all. all.items ≡ datagram ∷ []) }
+{
+    let mut all = Vec::new(alloc);
+    all.push(datagram)?;
+    Ok(all)
+}
+
+/// Sends a datagram again that a sending stream sent (RFC 4588 4), and answers `OK`: its repair is left to be fetched
+/// as the only datagram. `NOT_MADE` without an end, `NO_STREAM` where no sending stream has the number; else the first
+/// that holds of `NO_REPAIR`, `NOT_OWN` and `LIMIT_TOO_SMALL`, or `MEMORY`, and the end is unchanged.
+pub fn repair(alloc: Global, end: &mut EndHandle, stream: usize, datagram: &[u8]) -> u32
+    ensures answer { AtObject end.old.place.object end.new.place.object result
+        (λ p after. AtEnd p.end after.end result
+        (λ e now. AnswersRepair e stream datagram.now result after.datagrams now)) }
+    ensures kept { AtObject end.old.place.object end.new.place.object result
+        (λ p after. result ≢ ok → after.datagrams ≡ p.datagrams) }
+    ensures rest { AtObject end.old.place.object end.new.place.object result
+        (λ p after. after ≡ behind_sample p after.end after.datagrams) }
+{
+    if !end.is_open() {
+        return codes::CLOSED;
+    }
+    let held = end.place.held();
+    let Some(end) = &mut held.end else {
+        return codes::NOT_MADE;
+    };
+    if !end.is_sender(stream) {
+        return codes::NO_STREAM;
+    }
+    // The room is taken before the repair is made, since a repair that is made uses its number up.
+    let Ok(mut left) = one(alloc, Datagram::from_vec(Vec::new(alloc))) else {
+        return codes::MEMORY;
+    };
+    match end.repair(stream, datagram) {
+        Ok(repair) => {
+            left[0] = repair;
+            held.datagrams = left;
+            codes::OK
+        }
+        Err(error) => repair_code(error),
     }
 }

@@ -141,3 +141,9 @@ event_invalid = 45
 
 abbrev pub amr_wb_corrupted : ℕ
 amr_wb_corrupted = 46
+
+abbrev pub no_repair : ℕ
+no_repair = 47
+
+abbrev pub not_own : ℕ
+not_own = 48

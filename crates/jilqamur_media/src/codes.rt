@@ -94,3 +94,7 @@ pub const RED_CORRUPTED: u32 = 44;
 pub const EVENT_INVALID: u32 = 45;
 /// An AMR-WB packet or sample breaks its format (RFC 4867 4.3 and 4.4).
 pub const AMR_WB_CORRUPTED: u32 = 46;
+/// The stream has no pair for repairs, or sends redundancy (RFC 4588 8.3).
+pub const NO_REPAIR: u32 = 47;
+/// The datagram isn't one that the stream sent.
+pub const NOT_OWN: u32 = 48;
