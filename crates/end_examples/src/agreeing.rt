@@ -1,6 +1,7 @@
 //! Two ends that agree. Uses the crates `anyhow`, `rtp_media` and `rtp_wire`.
 
-use rtp_media::{CodecConfig, End, MediaKind, SectionSpec, Session};
+use anyhow::ensure;
+use rtp_media::{CodecConfig, End, MediaKind, SectionSpec, Session, are_sound};
 use rtp_wire::{Direction, ExtensionMap, Mid, SessionId, Ssrc};
 use std::alloc::{AllocError, Global};
 
@@ -19,14 +20,17 @@ fn audio(alloc: Global, ssrc: u32) -> Result<Vec<SectionSpec>, AllocError> {
         kind: MediaKind::Audio,
         dir: Direction::SendRecv,
         ssrcs: vec![in alloc; Ssrc::from(ssrc)]?,
+        repairs: Vec::new(alloc),
     };
     Ok(vec![in alloc; section]?)
 }
 
 /// Has `a` offer and `b` answer. The two texts are all that travels.
 pub(crate) fn agree(alloc: Global, a: &mut End, b: &mut End) -> anyhow::Result<()> {
-    let offer = a.offer(audio(alloc, 44)?)?;
-    let answer = b.answer(offer.as_str(), audio(alloc, 45)?)?;
+    let (of_a, of_b) = (audio(alloc, 44)?, audio(alloc, 45)?);
+    ensure!(are_sound(&of_a) && are_sound(&of_b), "unsound repairs");
+    let offer = a.offer(of_a)?;
+    let answer = b.answer(offer.as_str(), of_b)?;
     a.accept(answer.as_str())?;
     Ok(())
 }

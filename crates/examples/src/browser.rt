@@ -1,7 +1,8 @@
 //! Answers a browser's offer of audio and data by an end: sound goes both ways, and data is rejected. Uses the crates
 //! `anyhow`, `rtp_media`, `rtp_media_browsers`, `rtp_wire` and `sdp_formats`.
 
-use rtp_media::{CodecConfig, End, Session};
+use anyhow::ensure;
+use rtp_media::{CodecConfig, End, Session, are_sound};
 use rtp_media_browsers::{Gathering, Plan, Transport, Wish, for_browser, for_end, sections_for};
 use rtp_wire::{Direction, ExtensionMap, SessionId, Ssrc};
 use sdp_formats::{Fingerprint, IceCreds, Listed, Setup, Text};
@@ -38,6 +39,7 @@ fn wishes(alloc: Global) -> Result<Vec<Wish>, AllocError> {
     let sound = Wish::Accept {
         direction: Direction::SendRecv,
         ssrcs: vec![in alloc; Ssrc::from(44)]?,
+        repairs: Vec::new(alloc),
     };
     Ok(vec![in alloc; sound]?)
 }
@@ -47,6 +49,7 @@ fn answered(alloc: Global, end: &mut End, plan: &mut Plan, offer: &str) -> anyho
     let wishes = wishes(alloc)?;
     let handed = for_end(alloc, plan, offer, wishes.as_slice())?;
     let sections = sections_for(alloc, offer, wishes.as_slice())?;
+    ensure!(are_sound(sections.as_slice()), "unsound repairs");
     let answer = end.answer(handed.as_str(), sections)?;
     let text = for_browser(alloc, plan, answer.as_str(), &transport(alloc)?)?;
     Ok(text)

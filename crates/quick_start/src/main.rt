@@ -2,17 +2,19 @@
 #![tactic(auto)]
 
 use anyhow::ensure;
-use rtp_media::{CodecConfig, End, MIN_HELD, MediaKind, SectionSpec, Session, StreamParams};
-use rtp_wire::{
-    Direction, ExtensionMap, ExtensionValues, Frequency, MediaTime, Mid, Pt, SessionId, Ssrc,
+use rtp_media::{
+    CodecConfig, Direction, End, ExtensionMap, ExtensionValues, Frequency, MIN_HELD, MediaKind,
+    MediaTime, Mid, Pt, SectionSpec, Session, SessionId, Ssrc, StreamParams, are_sound,
 };
 use std::alloc::{AllocError, Global};
 
 fn main(rt: HostRuntime) -> anyhow::Result<()> {
     let alloc = rt.alloc();
     let (mut a, mut b) = (opus_end(alloc, 1)?, opus_end(alloc, 2)?);
-    let offer = a.offer(audio(alloc, 44)?)?; // the two texts are all that travels
-    let answer = b.answer(offer.as_str(), audio(alloc, 45)?)?;
+    let (of_a, of_b) = (audio(alloc, 44)?, audio(alloc, 45)?);
+    ensure!(are_sound(&of_a) && are_sound(&of_b), "unsound repairs");
+    let offer = a.offer(of_a)?; // the two texts are all that travels
+    let answer = b.answer(offer.as_str(), of_b)?;
     a.accept(answer.as_str())?;
     let (mid, ssrc, pt) = (Mid::from("0"), Ssrc::from(44), Pt::from(111));
     let params = StreamParams {
@@ -51,12 +53,12 @@ fn opus_end(alloc: Global, session: u64) -> anyhow::Result<End> {
 
 /// One section, `0`, of audio in both directions, whose SSRC this is.
 fn audio(alloc: Global, ssrc: u32) -> Result<Vec<SectionSpec>, AllocError> {
-    let ssrcs = vec![in alloc; Ssrc::from(ssrc)]?;
     let section = SectionSpec {
         mid: Mid::from("0"),
         kind: MediaKind::Audio,
         dir: Direction::SendRecv,
-        ssrcs,
+        ssrcs: vec![in alloc; Ssrc::from(ssrc)]?,
+        repairs: Vec::new(alloc),
     };
     Ok(vec![in alloc; section]?)
 }

@@ -3,7 +3,7 @@
 use crate::asking::{TIMES, print_refused};
 use rtp_media::{
     CodecConfig, Direction, End, EndError, ExchangeError, ExtensionMap, MIN_HELD, MediaKind, Mid,
-    OpenError, Pt, SectionSpec, Session, SessionId, Ssrc, StreamParams, connect,
+    OpenError, Pt, SectionSpec, Session, SessionId, Ssrc, StreamParams, are_sound, connect,
 };
 use std::alloc::{AllocError, Global};
 
@@ -45,6 +45,7 @@ fn section(
         kind,
         dir: Direction::SendRecv,
         ssrcs,
+        repairs: Vec::new(alloc),
     })
 }
 
@@ -80,6 +81,9 @@ pub(crate) fn print_agreement(rt: &HostRuntime) -> Option<()> {
 fn print_connected(rt: &HostRuntime, a: &mut End, b: &mut End) -> Option<()> {
     for _ in 0..TIMES {
         let (of_a, of_b) = (gathered(rt, 44)?, gathered(rt, 54)?);
+        if !are_sound(of_a.as_slice()) || !are_sound(of_b.as_slice()) {
+            return None;
+        }
         match connect(a, b, of_a, of_b) {
             Ok((offer, answer)) => {
                 let _ = println!(*rt; "{offer}{answer}");
