@@ -59,8 +59,8 @@ with_new_sender e s = with_streams e (e.streams ++ Sender s ∷ [])
 abbrev pub with_new_receiver : EndState → Receiving → EndState
 with_new_receiver e r = with_streams e (e.streams ++ Receiver r ∷ [])
 
--- The SSRC and type of a stream's repairs (RFC 4588 8.1 and 8.3): the SSRC that repairs the stream's, where it is another
--- one, and the row's type for retransmissions, where it has 7 bits.
+-- The SSRC and type of a stream's repairs (RFC 4588 8.1 and 8.3): the SSRC that repairs the stream's, where it is
+-- another one, and the row's type for retransmissions, where it has 7 bits.
 abbrev pub key_of : ℕ → Option ℕ → Option ℕ → Option RepairKey
 key_of ssrc (Some pt) (Some repair) =
     if nat_le pt 127 && not (repair == ssrc) then Some (record { ssrc = repair; pt = pt }) else None

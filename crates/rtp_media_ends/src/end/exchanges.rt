@@ -124,7 +124,8 @@ impl End {
 }
 
 /// Has `a` offer, `b` answer and `a` accept, and answers both texts. Both ends have then agreed on the
-/// rows and the map of header extensions of each section of the answer, and each takes the repairs that the other names.
+/// rows and the map of header extensions of each section of the answer, and each takes the repairs that the other
+/// names.
 ///
 /// # Conditions
 /// The repairs of each section fit its SSRCs: [`SectionSpec::is_sound`].
