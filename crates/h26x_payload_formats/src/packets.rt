@@ -6,7 +6,7 @@ ghost use Rattle.h26x_payload_formats.specs.Packing.{aggregate, fragment, least,
 ghost use Rattle.h26x_payload_formats.specs.Waiting.{joining, sized_before};
 ghost use Rattle.std.specs.Prelude.{◌≡◌, ◌++◌, ◌≤◌, IfOk, IfSome, OnOk, length, option_map};
 
-use crate::layout_constants::NALU_HEADER_SIZE;
+use crate::layout_constants::{FRAGMENT_HEADER_SIZE, NALU_HEADER_SIZE};
 use h26x_payload_units::{Layout, donl_size, push_sized};
 use std::alloc::{AllocError, Global};
 
@@ -134,7 +134,8 @@ pub fn single(form: Form, number: u16, unit: &[u8]) -> Result<Vec<u8>, AllocErro
         return Ok(Vec::from_slice(form.alloc, unit)?);
     }
     let (header, body) = unit.split_at(NALU_HEADER_SIZE);
-    let mut packet = Vec::from_slice(form.alloc, header)?;
+    let mut packet = Vec::with_capacity(form.alloc, single_size(form, unit))?;
+    packet.extend_from_slice(header)?;
     push_donl(form.donl, number, &mut packet)?;
     packet.extend_from_slice(body)?;
     Ok(packet)
@@ -159,7 +160,8 @@ pub fn fragment(
     ensures { IfOk result (λ p. p.items ≡ fragment form.layout form.donl cut.number cut.high cut.low first last
         part.now) }
 {
-    let mut packet = Vec::new(form.alloc);
+    let before = FRAGMENT_HEADER_SIZE + donl_size(form.donl);
+    let mut packet = Vec::with_capacity(form.alloc, part.len().saturating_add(before))?;
     let nalu_type = form.layout.fragment_type();
     packet.push(form.layout.high_with(cut.high, nalu_type))?;
     packet.push(form.layout.low_with(cut.low, nalu_type))?;

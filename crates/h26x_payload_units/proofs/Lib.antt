@@ -1,3 +1,4 @@
+mod BlockLemmas
 pub mod CutLemmas
 pub mod LayoutLemmas
 pub mod PlaceLemmas

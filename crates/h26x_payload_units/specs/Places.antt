@@ -1,5 +1,5 @@
 -- Start codes by their places.
-use Rattle.std.specs.Prelude.{◌≡◌, ℕ, ◌+◌, ◌<◌, List, slice_index}
+use Rattle.std.specs.Prelude.{◌≡◌, ℕ, ◌+◌, ◌<◌, ◌≤◌, List, slice_index}
 
 -- 00 00 01 stands there. A byte behind the end of a text counts as 0.
 abbrev pub HasCodeAt : List ℕ → ℕ → Type 0
@@ -8,3 +8,7 @@ HasCodeAt text place = (slice_index text place ≡ 0)
 
 abbrev pub HasNoCodeBefore : List ℕ → ℕ → Type 0
 HasNoCodeBefore text place = (k : ℕ) → k < place → HasCodeAt text k → ⊥
+
+-- None begins from one place on and before another.
+abbrev pub HasNoCodeBetween : List ℕ → ℕ → ℕ → Type 0
+HasNoCodeBetween text start end = (k : ℕ) → start ≤ k → k < end → HasCodeAt text k → ⊥

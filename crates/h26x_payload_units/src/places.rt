@@ -1,17 +1,35 @@
 //! Where start codes stand.
 
-ghost use Rattle.std.specs.Prelude.{◌≡◌, ℕ, ◌+◌, ◌<◌, ◌≤◌, MatchOption, length};
-ghost use Rattle.h26x_payload_units.specs.Places.{HasCodeAt, HasNoCodeBefore};
+ghost use Rattle.std.specs.Prelude.{◌≡◌, ℕ, ◌+◌, ◌-◌, ◌<◌, ◌≤◌, IsTrue, MatchOption, length};
+ghost use Rattle.h26x_payload_units.specs.Places.{HasCodeAt, HasNoCodeBefore, HasNoCodeBetween};
 ghost use Rattle.h26x_payload_units.specs.Units.{units_behind, without_zeros};
 ghost use Rattle.h26x_payload_units.specs.Cut.{with_unit};
 
-/// The place of the first 00 00 01 (ITU-T H.264 annex B), from 0.
-pub fn code_place(text: &[u8]) -> Option<usize>
-    ensures { MatchOption result (HasNoCodeBefore text.now (length text.now))
-        (λ place. HasCodeAt text.now place × HasNoCodeBefore text.now place) }
+/// How many places are looked at together.
+const BLOCK: usize = 32;
+
+/// Whether no two zeros stand side by side from a place on, so that no start code begins in the block there.
+fn is_free(text: &[u8], start: usize) -> bool
+    requires { start + 33 ≤ length text.now }
+    ensures { IsTrue result → HasNoCodeBetween text.now start (start + 32) }
 {
-    let mut i = 0;
-    while i < text.len().saturating_sub(2) {
+    let first = &text[start..start + BLOCK];
+    let second = &text[start + 1..start + BLOCK + 1];
+    let mut least = 255u8;
+    for k in 0..BLOCK {
+        least = least.min(first[k].max(second[k]));
+    }
+    least > 0
+}
+
+/// The place of the first 00 00 01 that begins from `start` on and before `end`.
+fn place_between(text: &[u8], start: usize, end: usize) -> Option<usize>
+    requires { end ≤ length text.now - 2 }
+    ensures { MatchOption result (HasNoCodeBetween text.now start end)
+        (λ place. HasCodeAt text.now place × HasNoCodeBetween text.now start place) }
+{
+    let mut i = start;
+    while i < end {
         // A third byte above 0 rules out the next two places too.
         let third = text[i + 2];
         if third == 0 {
@@ -23,6 +41,24 @@ pub fn code_place(text: &[u8]) -> Option<usize>
         }
     }
     None
+}
+
+/// The place of the first 00 00 01 (ITU-T H.264 annex B), from 0.
+pub fn code_place(text: &[u8]) -> Option<usize>
+    ensures { MatchOption result (HasNoCodeBefore text.now (length text.now))
+        (λ place. HasCodeAt text.now place × HasNoCodeBefore text.now place) }
+{
+    let end = text.len().saturating_sub(2);
+    let mut i = 0;
+    while i + BLOCK <= end {
+        if !is_free(text, i) {
+            if let Some(place) = place_between(text, i, i + BLOCK) {
+                return Some(place);
+            }
+        }
+        i += BLOCK;
+    }
+    place_between(text, i, end)
 }
 
 /// A text without the zeros at its end.

@@ -16,7 +16,7 @@ pub fn cut_law()
     ensures comes_back { ComesBack }
 {}
 
-/// The units that an iterator hands out until it answers None are all that it has left, in order; so those of
+/// The units that an iterator hands out until it returns None are all that it has left, in order; so those of
 /// a fresh one are the text's.
 pub fn nal_units_law()
     ensures { HandsOutAll }

@@ -148,7 +148,7 @@ pub fn complete<'a>(opens_last: bool, elements: &'a [&'a [u8]]) -> &'a [&'a [u8]
     front
 }
 
-/// Writes what elements give, and answers the fragment that the last one opens: with `opens_last` it does, and the
+/// Writes what elements give, and returns the fragment that the last one opens: with `opens_last` it does, and the
 /// others are complete. It takes the memory of an earlier one.
 pub fn give_and_open(
     alloc: Global,

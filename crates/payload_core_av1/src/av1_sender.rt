@@ -18,6 +18,9 @@ use std::collections::VecDeque;
 // How many elements have a packet whose last one has no size.
 const COUNTED: usize = 3;
 
+// Room for the size of an element that fits a datagram.
+const SIZE_ROOM: usize = 3;
+
 /// Cuts AV1 temporal units into packets, each as long as the limit allows (RTP payload format for AV1, 5).
 ///
 /// Temporal delimiters, tile lists and padding are not sent, and no unit is sent with its size. Chromium stops at a
@@ -133,7 +136,11 @@ fn packet(
     requires { AreTexts (map (λ e. e.now) elements.now) }
     ensures { IfOk result (λ p. p.items ≡ packet_of z y n (map (λ e. e.now) elements.now)) }
 {
-    let mut packet = Vec::new(alloc);
+    let mut len = 1usize;
+    for text in elements {
+        len = len.saturating_add(text.len()).saturating_add(SIZE_ROOM);
+    }
+    let mut packet = Vec::with_capacity(alloc, len)?;
     packet.push(aggregation(z, y, n, elements.len()))?;
     for (place, element) in elements.iter().enumerate() {
         push_element(has_size(place, elements.len()), element, &mut packet)?;
