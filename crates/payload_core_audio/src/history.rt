@@ -52,7 +52,7 @@ pub fn levels<'a>(
     ensures { IfOk result (λ olds. map old_block olds.items
         ≡ levels (map kept_of history.now) distances.now time) }
 {
-    let mut olds = Vec::new(alloc);
+    let mut olds = Vec::with_capacity(alloc, distances.len())?;
     for distance in distances {
         if let Some(old) = level(history, time, *distance) {
             if fields_fit(old.timestamp_offset, old.payload) {

@@ -11,9 +11,8 @@ mod cut;
 mod decoder;
 mod encoder;
 mod field;
-mod g7xx;
 mod history;
-mod opus;
+mod plain;
 mod red_laws;
 mod sender;
 mod sink;
@@ -24,11 +23,13 @@ pub use amr_wb::{AmrWbDepacketizer, AmrWbPacketizer};
 pub use amr_wb_laws::{amr_wb_law, amr_wb_layout_law};
 pub use audio_laws::{plain_laws, telephone_law};
 pub use block::{RedBlock, RedundantBlock};
-pub use comfort_noise::{ComfortNoiseDepacketizer, ComfortNoisePacketizer};
+pub use comfort_noise::ComfortNoisePacketizer;
 pub use decoder::{RedBlocks, RedDecoder};
 pub use encoder::RedEncoder;
-pub use g7xx::{G7xxPacketizer, G711Depacketizer, G711Packetizer, G722Packetizer};
-pub use opus::{OpusDepacketizer, OpusPacketizer};
+pub use plain::{
+    ComfortNoiseDepacketizer, G7xxPacketizer, G711Depacketizer, G711Packetizer, G722Packetizer,
+    OpusDepacketizer, OpusPacketizer, PlainDepacketizer, PlainPacketizer,
+};
 pub use red_laws::{red_law, red_wrap_law};
 pub use sender::RedSender;
 pub use sink::RedSink;

@@ -51,7 +51,11 @@ pub fn spell(
     ensures { IfOk result (λ packet. IsRed packet.items (map masked (map old_block blocks.now)) (pt % 128)
         primary.now) }
 {
-    let mut packet = Vec::new(alloc);
+    let mut len = primary.len().saturating_add(1);
+    for each in blocks {
+        len = len.saturating_add(each.payload.len()).saturating_add(4);
+    }
+    let mut packet = Vec::with_capacity(alloc, len)?;
     for block in blocks {
         push_header(&mut packet, block)?;
     }

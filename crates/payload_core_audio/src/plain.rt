@@ -1,4 +1,5 @@
-//! G.711 and G.722 payloads (RFC 3551 4.5).
+//! Payloads that are samples: Opus (RFC 7587 4.2), G.711 and G.722 (RFC 3551 4.5), and comfort noise as it is read
+//! (RFC 3389 4).
 
 ghost use Rattle.payload_core_audio.specs.Plain.{is_one_piece, pieces_packing, plain_format};
 ghost use Rattle.payload_core_base.specs.Stateless.{idle_sender};
@@ -9,20 +10,33 @@ use crate::cut::{cut, is_one_piece};
 use payload_core_base::{CodecExtra, Depacketizer, PacketError, Packetizer};
 use std::alloc::Global;
 
-/// Cuts G.711 and G.722 samples into pieces of the limit (RFC 3551 4.5.14 and 4.5.2).
+/// Cuts samples into pieces of the limit, which have nothing beside the sample's bytes.
 #[derive(Clone, Copy, Debug, Drop)]
-pub struct G7xxPacketizer;
+pub struct PlainPacketizer;
 
-impl G7xxPacketizer {
+/// Cuts Opus samples (RFC 7587 4.2). Browsers drop a sample that leaves in pieces: choose a limit above the longest
+/// sample.
+pub type OpusPacketizer = PlainPacketizer;
+
+/// Cuts G.711 and G.722 samples (RFC 3551 4.5.14 and 4.5.2).
+pub type G7xxPacketizer = PlainPacketizer;
+
+/// Cuts PCMU and PCMA samples.
+pub type G711Packetizer = PlainPacketizer;
+
+/// Cuts G.722 samples.
+pub type G722Packetizer = PlainPacketizer;
+
+impl PlainPacketizer {
     /// A packetizer, which keeps nothing between samples.
     pub fn new() -> Self
         ensures { result ≡ record {} }
     {
-        G7xxPacketizer
+        PlainPacketizer
     }
 }
 
-impl Packetizer for G7xxPacketizer {
+impl Packetizer for PlainPacketizer {
     ghost packing = { λ _. pieces_packing };
 
     ghost sender = { λ _. idle_sender };
@@ -50,26 +64,29 @@ impl Packetizer for G7xxPacketizer {
     }
 }
 
-/// Cuts PCMU and PCMA samples.
-pub type G711Packetizer = G7xxPacketizer;
+/// Hands out each packet as a unit.
+#[derive(Clone, Copy, Debug, Drop)]
+pub struct PlainDepacketizer;
 
-/// Cuts G.722 samples.
-pub type G722Packetizer = G7xxPacketizer;
+/// Hands out each Opus packet as a unit (RFC 7587 4.2).
+pub type OpusDepacketizer = PlainDepacketizer;
 
 /// Hands out each G.711 or G.722 packet as a unit (RFC 3551 4.5).
-#[derive(Clone, Copy, Debug, Drop)]
-pub struct G711Depacketizer;
+pub type G711Depacketizer = PlainDepacketizer;
 
-impl G711Depacketizer {
+/// Hands out each comfort noise packet as a unit (RFC 3389 4).
+pub type ComfortNoiseDepacketizer = PlainDepacketizer;
+
+impl PlainDepacketizer {
     /// A depacketizer, which keeps nothing between packets.
     pub fn new() -> Self
         ensures { result ≡ record {} }
     {
-        G711Depacketizer
+        PlainDepacketizer
     }
 }
 
-impl Depacketizer for G711Depacketizer {
+impl Depacketizer for PlainDepacketizer {
     ghost format = { λ _. plain_format };
 
     ghost fragment = { λ _. None };
