@@ -1,29 +1,24 @@
 -- The channels of lines that are read are of eight bits.
 use Rattle.std.proofs.Common.{◌<◌, ◌^◌, ◌&&◌, ℕ, List, codes, Option, Some, None, IfSome, nat_lt, subst}
 use Rattle.std.specs.Prelude.{length}
-use Rattle.std.specs.Str.{bytes_eq}
 use Rattle.std.specs.Str.Parse.{without_leading_plus, digits_value}
-use Rattle.sdp_formats_attributes.specs.Choice.{attribute_line, media_attribute, second_attribute, third_attribute}
-use Rattle.sdp_formats_attributes.specs.Choice.{last_attribute}
-use Rattle.sdp_formats_attributes.specs.Kinds.{ice_ufrag_line, ice_pwd_line, ice_options_line, fingerprint_line}
-use Rattle.sdp_formats_attributes.specs.Kinds.{setup_line, mid_line, sctp_port_line, max_message_size_line}
-use Rattle.sdp_formats_attributes.specs.Kinds.{sctp_init_line, extmap_line, msid_line, rtcp_line, candidate_line}
-use Rattle.sdp_formats_attributes.specs.Kinds.{rtpmap_line, rtcp_fb_line, fmtp_line, rid_line, simulcast_line}
-use Rattle.sdp_formats_attributes.specs.Kinds.{ssrc_group_line, ssrc_line, direction_word, mux_word, end_word}
+use Rattle.sdp_formats_attributes.specs.Choice.{attribute_line, media_attribute}
+use Rattle.sdp_formats_attributes.specs.Kinds.{media_kinds}
+use Rattle.sdp_formats_attributes.specs.Transport.{in_section}
+use Rattle.sdp_formats_attributes.specs.declared.transport.TransportAttribute.{TransportAttribute}
+use Rattle.sdp_formats_attributes.specs.declared.transport.TransportAttribute.TheVariants as transport
 use Rattle.sdp_formats_attributes.specs.Maps.{clock_rate, make_map, payload_type, rtpmap}
 use Rattle.sdp_formats_attributes.specs.Parameters.{fmtp, listed_fmtp}
 use Rattle.sdp_formats_data.specs.declared.media.MediaAttribute.{MediaAttribute}
-use Rattle.sdp_formats_data.specs.declared.media.MediaAttribute.TheVariants.{EndOfCandidates, Inactive, RecvOnly}
-use Rattle.sdp_formats_data.specs.declared.media.MediaAttribute.TheVariants.{RtcpMux, RtcpMuxOnly, RtcpRsize, RtpMap}
-use Rattle.sdp_formats_data.specs.declared.media.MediaAttribute.TheVariants.{SendOnly, SendRecv, Unused}
+use Rattle.sdp_formats_data.specs.declared.media.MediaAttribute.TheVariants.{RtpMap, Unused}
 use Rattle.sdp_formats_data.specs.declared.media.MediaLine.{MediaLine}
 use Rattle.sdp_formats_data.specs.declared.session.Sdp.{Sdp}
-use Rattle.sdp_formats_grammar.specs.Form.{Form, SaysMaybe, any_text, cut, cut_maybe, number, told}
+use Rattle.sdp_formats_grammar.specs.Form.{Form, SaysMaybe, any_text, cut, cut_maybe, number}
 use Rattle.sdp_formats_grammar.specs.Line.{LineOf}
 use Rattle.sdp_formats_grammar.specs.Numbers.{all_digits, number_below}
 use Rattle.sdp_formats_laws.proofs.FormatRanges.{cond_in}
-use Rattle.sdp_formats_laws.proofs.Giving.{Gives, after_gives, begins_each, behind_gives, either_gives, made_gives}
-use Rattle.sdp_formats_laws.proofs.Giving.{made_of, none_gives, some_gives}
+use Rattle.sdp_formats_laws.proofs.Giving.{Gives, KindsGive, after_gives, begins_each, behind_gives, either_gives}
+use Rattle.sdp_formats_laws.proofs.Giving.{first_of_gives, made_gives, made_of}
 use Rattle.sdp_formats_reader.specs.Grammar.{SdpSays, SectionSays}
 use Rattle.sdp_formats_rounds.specs.Members.{IsEach}
 use Rattle.rtp_media_section_laws.proofs.SizedRounds.{IsNarrow}
@@ -34,28 +29,6 @@ IsNarrowLine _ = Unit {0}
 
 abbrev Narrow : Form MediaAttribute → Type 0
 Narrow f = Gives IsNarrowLine f
-
--- words
-direction_narrow : Narrow (told direction_word)
-direction_narrow = record {
-  each = λ t. some_gives IsNarrowLine (bytes_eq t (codes "recvonly")) RecvOnly _ tt
-      (some_gives IsNarrowLine (bytes_eq t (codes "sendrecv")) SendRecv _ tt
-      (some_gives IsNarrowLine (bytes_eq t (codes "sendonly")) SendOnly _ tt
-      (some_gives IsNarrowLine (bytes_eq t (codes "inactive")) Inactive _ tt (none_gives IsNarrowLine))));
-}
-
-mux_narrow : Narrow (told mux_word)
-mux_narrow = record {
-  each = λ t. some_gives IsNarrowLine (bytes_eq t (codes "rtcp-mux")) RtcpMux _ tt
-      (some_gives IsNarrowLine (bytes_eq t (codes "rtcp-mux-only")) RtcpMuxOnly _ tt
-      (some_gives IsNarrowLine (bytes_eq t (codes "rtcp-rsize")) RtcpRsize _ tt (none_gives IsNarrowLine)));
-}
-
-end_narrow : Narrow (told end_word)
-end_narrow = record {
-  each = λ t. some_gives IsNarrowLine (bytes_eq t (codes "end-of-candidates")) EndOfCandidates _ tt
-      (none_gives IsNarrowLine);
-}
 
 -- numbers
 number_low : (limit : ℕ) (t : List ℕ) → IfSome (number_below limit t) (λ n. n < limit)
@@ -74,64 +47,102 @@ maybe_gives {A} {B} Q c f g x = record { each = λ t ab s. by t ab.0 ab.1 s }
     by t a None s = tt
     by t a (Some b) s = x.each s.1 b s.5
 
-map_narrow : Narrow rtpmap_line
-map_narrow = after_gives IsNarrowLine (codes "rtpmap:") rtpmap
-    (made_of (λ (x : ℕ × (List ℕ × (ℕ × Option ℕ))). IsNarrow x.1.1.1) IsNarrowLine (λ x. RtpMap x.0 (make_map x.1))
+map_narrow : Narrow rtpmap
+map_narrow = made_of (λ (x : ℕ × (List ℕ × (ℕ × Option ℕ))). IsNarrow x.1.1.1) IsNarrowLine
+    (λ x. RtpMap x.0 (make_map x.1))
     (cut 32 payload_type (cut 47 any_text (cut_maybe 47 clock_rate (number (2 ^ 8)))))
     (behind_gives (λ (x : List ℕ × (ℕ × Option ℕ)). IsNarrow x.1.1) 32 payload_type
     (cut 47 any_text (cut_maybe 47 clock_rate (number (2 ^ 8))))
     (behind_gives (λ (x : ℕ × Option ℕ). IsNarrow x.1) 47 any_text (cut_maybe 47 clock_rate (number (2 ^ 8)))
     (maybe_gives (λ n. n < 2 ^ 8) 47 clock_rate (number (2 ^ 8)) (number_gives (2 ^ 8)))))
-    (λ x h. h))
+    (λ x h. h)
 
-fmtp_narrow : Narrow fmtp_line
-fmtp_narrow = after_gives IsNarrowLine (codes "fmtp:") fmtp
-    (either_gives IsNarrowLine listed_fmtp _ (made_gives IsNarrowLine _ _ (λ x. tt))
-    (made_gives IsNarrowLine _ payload_type (λ pt. tt)))
+fmtp_narrow : Narrow fmtp
+fmtp_narrow = either_gives IsNarrowLine listed_fmtp _ (made_gives IsNarrowLine _ _ (λ x. tt))
+    (made_gives IsNarrowLine _ payload_type (λ pt. tt))
 
-last_narrow : Narrow last_attribute
-unfolding last_attribute
-last_narrow =
-    either_gives _ fmtp_line _ fmtp_narrow
-    (either_gives _ rid_line _ (after_gives _ (codes "rid:") _ (made_gives IsNarrowLine _ _ (λ x. tt)))
-    (either_gives _ simulcast_line _ (after_gives _ (codes "simulcast:") _ (made_gives IsNarrowLine _ _ (λ x. tt)))
-    (either_gives _ ssrc_group_line _ (after_gives _ (codes "ssrc-group:") _ (made_gives IsNarrowLine _ _ (λ x. tt)))
-    (either_gives _ ssrc_line _ (after_gives _ (codes "ssrc:") _ (made_gives IsNarrowLine _ _ (λ x. tt)))
-    (made_gives IsNarrowLine Unused any_text (λ x. tt))))))
+-- attributes of transport
+transport_narrow : (x : TransportAttribute) → IsNarrowLine (in_section x)
+transport_narrow (transport.IceUfrag v) = tt
+transport_narrow (transport.IcePwd v) = tt
+transport_narrow (transport.IceOptions v) = tt
+transport_narrow (transport.Fingerprint v) = tt
+transport_narrow (transport.Setup v) = tt
+transport_narrow (transport.Candidate v) = tt
+transport_narrow transport.EndOfCandidates = tt
 
-third_narrow : Narrow third_attribute
-unfolding third_attribute
-third_narrow =
-    either_gives _ (told mux_word) _ mux_narrow
-    (either_gives _ candidate_line _ (after_gives _ (codes "candidate:") _ (made_gives IsNarrowLine _ _ (λ x. tt)))
-    (either_gives _ (told end_word) _ end_narrow
-    (either_gives _ rtpmap_line _ map_narrow
-    (either_gives _ rtcp_fb_line _ (after_gives _ (codes "rtcp-fb:") _ (made_gives IsNarrowLine _ _ (λ x. tt)))
-    last_narrow))))
+kinds_narrow : KindsGive IsNarrowLine media_kinds
+kinds_narrow = (
+  made_gives IsNarrowLine in_section _ transport_narrow,
+  (
+    made_gives IsNarrowLine in_section _ transport_narrow,
+    (
+      made_gives IsNarrowLine in_section _ transport_narrow,
+      (
+        made_gives IsNarrowLine in_section _ transport_narrow,
+        (
+          made_gives IsNarrowLine in_section _ transport_narrow,
+          (
+            made_gives IsNarrowLine _ _ (λ x. tt),
+            (
+              made_gives IsNarrowLine _ _ (λ x. tt),
+              (
+                made_gives IsNarrowLine _ _ (λ x. tt),
+                (
+                  made_gives IsNarrowLine _ _ (λ x. tt),
+                  (
+                    made_gives IsNarrowLine _ _ (λ x. tt),
+                    (
+                      (tt, (tt, (tt, (tt, tt)))),
+                      (
+                        made_gives IsNarrowLine _ _ (λ x. tt),
+                        (
+                          made_gives IsNarrowLine _ _ (λ x. tt),
+                          (
+                            (tt, (tt, (tt, tt))),
+                            (
+                              made_gives IsNarrowLine in_section _ transport_narrow,
+                              (
+                                (tt, tt),
+                                (
+                                  map_narrow,
+                                  (
+                                    made_gives IsNarrowLine _ _ (λ x. tt),
+                                    (
+                                      fmtp_narrow,
+                                      (
+                                        made_gives IsNarrowLine _ _ (λ x. tt),
+                                        (
+                                          made_gives IsNarrowLine _ _ (λ x. tt),
+                                          (
+                                            made_gives IsNarrowLine _ _ (λ x. tt),
+                                            (made_gives IsNarrowLine _ _ (λ x. tt), tt),
+                                          ),
+                                        ),
+                                      ),
+                                    ),
+                                  ),
+                                ),
+                              ),
+                            ),
+                          ),
+                        ),
+                      ),
+                    ),
+                  ),
+                ),
+              ),
+            ),
+          ),
+        ),
+      ),
+    ),
+  ),
+)
 
-second_narrow : Narrow second_attribute
-unfolding second_attribute
-second_narrow =
-    either_gives _ sctp_port_line _ (after_gives _ (codes "sctp-port:") _ (made_gives IsNarrowLine _ _ (λ x. tt)))
-    (either_gives _ max_message_size_line _
-    (after_gives _ (codes "max-message-size:") _ (made_gives IsNarrowLine _ _ (λ x. tt)))
-    (either_gives _ sctp_init_line _ (after_gives _ (codes "sctp-init:") _ (made_gives IsNarrowLine _ _ (λ x. tt)))
-    (either_gives _ extmap_line _ (after_gives _ (codes "extmap:") _ (made_gives IsNarrowLine _ _ (λ x. tt)))
-    (either_gives _ (told direction_word) _ direction_narrow
-    (either_gives _ msid_line _ (after_gives _ (codes "msid:") _ (made_gives IsNarrowLine _ _ (λ x. tt)))
-    (either_gives _ rtcp_line _ (after_gives _ (codes "rtcp:") _ (made_gives IsNarrowLine _ _ (λ x. tt)))
-    third_narrow))))))
-
-media_narrow : Narrow media_attribute
+media_narrow : Gives IsNarrowLine media_attribute
 unfolding media_attribute
-media_narrow =
-    either_gives _ ice_ufrag_line _ (after_gives _ (codes "ice-ufrag:") _ (made_gives IsNarrowLine _ _ (λ x. tt)))
-    (either_gives _ ice_pwd_line _ (after_gives _ (codes "ice-pwd:") _ (made_gives IsNarrowLine _ _ (λ x. tt)))
-    (either_gives _ ice_options_line _ (after_gives _ (codes "ice-options:") _ (made_gives IsNarrowLine _ _ (λ x. tt)))
-    (either_gives _ fingerprint_line _ (after_gives _ (codes "fingerprint:") _ (made_gives IsNarrowLine _ _ (λ x. tt)))
-    (either_gives _ setup_line _ (after_gives _ (codes "setup:") _ (made_gives IsNarrowLine _ _ (λ x. tt)))
-    (either_gives _ mid_line _ (after_gives _ (codes "mid:") _ (made_gives IsNarrowLine _ _ (λ x. tt)))
-    second_narrow)))))
+media_narrow = first_of_gives IsNarrowLine media_kinds _ kinds_narrow (made_gives IsNarrowLine Unused any_text (λ x. tt))
 
 line_narrow : Narrow attribute_line
 line_narrow = after_gives IsNarrowLine (codes "a=") media_attribute media_narrow

@@ -9,14 +9,14 @@ mod parsing;
 pub use exchanged::{SdpAnswer, SdpOffer};
 pub use parsing::Parse;
 pub use rtp_wire::{Direction, Extension, Frequency, Mid, Pt, Rid, SessionId, Ssrc};
-pub use sdp_formats_attributes::{candidate_of, fingerprint_of, from_text, setup_of};
+pub use sdp_formats_attributes::{fingerprint_of, setup_of};
 pub use sdp_formats_data::{
     Bandwidth, Candidate, CandidateKind, Fingerprint, FormatParam, H265ProfileTierLevel,
     H266ProfileTierLevel, IceCreds, Inconsistency, Listed, MediaAttribute, MediaLine, MediaType,
     Msid, Pair, Proto, Protocol, RelatedAddress, RestrictionId, RidDirection, RtpMap, Sdp,
     SdpError, Session, SessionAttribute, Setup, Simulcast, SimulcastGroups, SimulcastLayer,
     SsrcInfo, TcpType, Text, attribute_equality_law, bandwidth_equality_law,
-    candidate_equality_law, hash_preference, is_no_stream, sdp_equality_law, section_equality_law,
+    candidate_equality_law, is_no_stream, sdp_equality_law, section_equality_law,
     session_attribute_equality_law, session_equality_law, sources_of,
 };
 pub use sdp_formats_grammar::{FingerprintFmt, Joined, Maybe, Refusal};
@@ -26,4 +26,4 @@ pub use sdp_formats_rows::{
     Codec, CodecSpec, FormatParams, MediaKind, PayloadParams, scores_in_range, scores_symmetric,
 };
 pub use sdp_formats_section_rows::{AsMediaAttrs, FromSdpFmtp, RtpParams, ToCodecSpec, ToRtpMap};
-pub use sdp_formats_values::parse_pairs;
+pub use sdp_formats_values::{FingerprintError, candidate_of};

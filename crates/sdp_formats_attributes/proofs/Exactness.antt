@@ -1,19 +1,51 @@
 -- The kinds are read exactly where they say a value.
-use Rattle.std.proofs.Common.{ℕ, ◌^◌, codes}
-use Rattle.sdp_formats_grammar.specs.Form.{IsExact, some_text, any_text, number}
+use Rattle.std.proofs.Common.{ℕ, ◌^◌, List, [], ◌∷◌, ◌++◌, codes, map}
+use Rattle.sdp_formats_grammar.specs.Form.{Form, IsExact, some_text, any_text, number}
+use Rattle.sdp_formats_grammar.specs.Kinds.{Kind, Named, OneOf, kind_form, made_kind, first_of}
+use Rattle.sdp_formats_grammar.specs.Tables.{word_of}
+use Rattle.sdp_formats_attributes.specs.Digest.{fingerprint}
+use Rattle.sdp_formats_attributes.specs.Kinds.{media_kinds}
 use Rattle.sdp_formats_grammar.specs.Numbers.{number_below}
 use Rattle.sdp_formats_grammar.specs.Exact.{told-exact, made-exact, after-exact, cut-exact, cut_maybe-exact}
 use Rattle.sdp_formats_grammar.specs.Exact.{separated-exact, either-exact, only-exact}
 use Rattle.sdp_formats_attributes.specs.PairsSay.{pair_list}
-use Rattle.sdp_formats_attributes.specs.Maps.{payload_type, clock_rate}
-use Rattle.sdp_formats_attributes.specs.Kinds.{ice_ufrag_line, ice_pwd_line, ice_options_line, fingerprint_line}
-use Rattle.sdp_formats_attributes.specs.Kinds.{setup_line, mid_line, sctp_port_line, max_message_size_line}
-use Rattle.sdp_formats_attributes.specs.Kinds.{sctp_init_line, extmap_line, msid_line, rtcp_line, candidate_line}
-use Rattle.sdp_formats_attributes.specs.Kinds.{rtpmap_line, rtcp_fb_line, fmtp_line, rid_line, simulcast_line}
-use Rattle.sdp_formats_attributes.specs.Kinds.{ssrc_group_line, ssrc_line}
-use Rattle.sdp_formats_attributes.specs.Choice.{media_attribute, second_attribute, third_attribute, last_attribute}
+use Rattle.sdp_formats_attributes.specs.Maps.{payload_type, clock_rate, rtpmap, rtcp_fb}
+use Rattle.sdp_formats_attributes.specs.Parameters.{fmtp}
+use Rattle.sdp_formats_attributes.specs.Rids.{rid}
+use Rattle.sdp_formats_attributes.specs.Simulcasts.{simulcast}
+use Rattle.sdp_formats_attributes.specs.Sources.{extmap, msid, ssrc, ssrc_group}
+use Rattle.sdp_formats_attributes.specs.Choice.{media_attribute}
+use Rattle.sdp_formats_attributes.specs.Transport.{in_section, transport_kinds}
+use Rattle.sdp_formats_attributes.specs.declared.transport.TransportAttribute.{TransportAttribute}
 
-text-exact : IsExact any_text
+-- the forms of all kinds
+abbrev IsExactKind : {A : Type 0} → Kind A → Type 0
+IsExactKind (Named name form) = IsExact form
+IsExactKind (OneOf table) = Unit {0}
+
+abbrev pub AreExact : {A : Type 0} → List (Kind A) → Type 0
+AreExact [] = Unit {0}
+AreExact (kind ∷ kinds) = IsExactKind kind × AreExact kinds
+
+kind-exact : {A : Type 0} (kind : Kind A) → IsExactKind kind → IsExact (kind_form kind)
+kind-exact (Named name form) h = after-exact (name ++ 58 ∷ []) form h
+kind-exact (OneOf table) h = told-exact (word_of table)
+
+pub first_of-exact : {A : Type 0} (kinds : List (Kind A)) (otherwise : Form A) → AreExact kinds → IsExact otherwise
+    → IsExact (first_of kinds otherwise)
+first_of-exact [] otherwise h k = k
+first_of-exact (kind ∷ kinds) otherwise h k =
+    either-exact (kind_form kind) (first_of kinds otherwise) (kind-exact kind h.0)
+    (first_of-exact kinds otherwise h.1 k)
+
+-- the forms of values made of others
+made-kinds : {A B : Type 0} (make : A → B) (kinds : List (Kind A)) → AreExact kinds
+    → AreExact (map (made_kind make) kinds)
+made-kinds make [] h = tt
+made-kinds make (Named name form ∷ kinds) h = (made-exact make form h.0, made-kinds make kinds h.1)
+made-kinds make (OneOf table ∷ kinds) h = (tt, made-kinds make kinds h.1)
+
+pub text-exact : IsExact any_text
 text-exact = told-exact some_text
 
 number-exact : (limit : ℕ) → IsExact (number limit)
@@ -25,120 +57,140 @@ type-exact = only-exact _ (number (2 ^ 8)) (number-exact (2 ^ 8))
 rate-exact : IsExact clock_rate
 rate-exact = only-exact _ (number (2 ^ 32)) (number-exact (2 ^ 32))
 
-ice_ufrag-exact : IsExact ice_ufrag_line
-ice_ufrag-exact = after-exact (codes "ice-ufrag:") _ (made-exact _ _ text-exact)
+fingerprint-exact : IsExact fingerprint
+fingerprint-exact = made-exact _ _ (cut-exact 32 _ _ text-exact (separated-exact 58 _ (told-exact _)))
 
-ice_pwd-exact : IsExact ice_pwd_line
-ice_pwd-exact = after-exact (codes "ice-pwd:") _ (made-exact _ _ text-exact)
+-- Attributes of transport, of a session and of a section alike.
+transport-exact : AreExact transport_kinds
+transport-exact = (
+  made-exact _ _ text-exact,
+  (
+    made-exact _ _ text-exact,
+    (
+      made-exact _ _ text-exact,
+      (
+        made-exact _ _ fingerprint-exact,
+        (
+          made-exact _ _ (told-exact _),
+          (
+            made-exact _ _ (told-exact _),
+            (tt, tt),
+          ),
+        ),
+      ),
+    ),
+  ),
+)
 
-ice_options-exact : IsExact ice_options_line
-ice_options-exact = after-exact (codes "ice-options:") _ (made-exact _ _ text-exact)
+pub made-transport : {A : Type 0} (make : TransportAttribute → A) → AreExact (map (made_kind make) transport_kinds)
+made-transport make = made-kinds make transport_kinds transport-exact
 
-fingerprint-exact : IsExact fingerprint_line
-fingerprint-exact = after-exact (codes "fingerprint:") _
-    (made-exact _ _ (made-exact _ _ (cut-exact 32 _ _ text-exact (separated-exact 58 _ (told-exact _)))))
+extmap-exact : IsExact extmap
+extmap-exact = made-exact _ _ (cut-exact 32 _ _ (cut_maybe-exact 47 _ _ (number-exact (2 ^ 8)) text-exact)
+    (cut_maybe-exact 32 _ _ text-exact text-exact))
 
-setup-exact : IsExact setup_line
-setup-exact = after-exact (codes "setup:") _ (made-exact _ _ (told-exact _))
+msid-exact : IsExact msid
+msid-exact = made-exact _ _ (cut-exact 32 _ _ text-exact text-exact)
 
-mid-exact : IsExact mid_line
-mid-exact = after-exact (codes "mid:") _ (made-exact _ _ text-exact)
+rtpmap-exact : IsExact rtpmap
+rtpmap-exact = made-exact _ _ (cut-exact 32 _ _ type-exact
+    (cut-exact 47 _ _ text-exact (cut_maybe-exact 47 _ _ rate-exact (number-exact (2 ^ 8)))))
 
-sctp_port-exact : IsExact sctp_port_line
-sctp_port-exact = after-exact (codes "sctp-port:") _ (made-exact _ _ (number-exact (2 ^ 16)))
+rtcp_fb-exact : IsExact rtcp_fb
+rtcp_fb-exact = made-exact _ _ (cut-exact 32 _ _ type-exact text-exact)
 
-max_message_size-exact : IsExact max_message_size_line
-max_message_size-exact = after-exact (codes "max-message-size:") _ (made-exact _ _ (number-exact (2 ^ 64)))
-
-sctp_init-exact : IsExact sctp_init_line
-sctp_init-exact = after-exact (codes "sctp-init:") _ (made-exact _ _ text-exact)
-
-extmap-exact : IsExact extmap_line
-extmap-exact = after-exact (codes "extmap:") _
-    (made-exact _ _ (cut-exact 32 _ _ (cut_maybe-exact 47 _ _ (number-exact (2 ^ 8)) text-exact)
-    (cut_maybe-exact 32 _ _ text-exact text-exact)))
-
-msid-exact : IsExact msid_line
-msid-exact = after-exact (codes "msid:") _ (made-exact _ _ (made-exact _ _ (cut-exact 32 _ _ text-exact text-exact)))
-
-rtcp-exact : IsExact rtcp_line
-rtcp-exact = after-exact (codes "rtcp:") _ (made-exact _ _ text-exact)
-
-candidate-exact : IsExact candidate_line
-candidate-exact = after-exact (codes "candidate:") _ (made-exact _ _ (told-exact _))
-
-rtpmap-exact : IsExact rtpmap_line
-rtpmap-exact = after-exact (codes "rtpmap:") _
-    (made-exact _ _ (cut-exact 32 _ _ type-exact
-    (cut-exact 47 _ _ text-exact (cut_maybe-exact 47 _ _ rate-exact (number-exact (2 ^ 8))))))
-
-rtcp_fb-exact : IsExact rtcp_fb_line
-rtcp_fb-exact = after-exact (codes "rtcp-fb:") _ (made-exact _ _ (cut-exact 32 _ _ type-exact text-exact))
-
-fmtp-exact : IsExact pair_list → IsExact fmtp_line
-fmtp-exact pairs = after-exact (codes "fmtp:") _ (either-exact _ _
+fmtp-exact : IsExact pair_list → IsExact fmtp
+fmtp-exact pairs = either-exact _ _
     (made-exact _ _ (cut-exact 32 _ _ type-exact (either-exact _ _ (made-exact _ _ pairs)
     (either-exact _ _ (made-exact _ _ (cut-exact 47 _ _ (number-exact (2 ^ 8)) (separated-exact 47 _ (told-exact _))))
     (either-exact _ _ (made-exact _ _ (after-exact (codes "0-") _ (told-exact _))) (told-exact _))))))
-    (made-exact _ _ type-exact))
+    (made-exact _ _ type-exact)
 
-rid-exact : IsExact rid_line
-rid-exact = after-exact (codes "rid:") _
-    (made-exact _ _ (cut-exact 32 _ _ (only-exact _ _ text-exact)
-    (cut_maybe-exact 32 _ _ (told-exact _) (told-exact _))))
+rid-exact : IsExact rid
+rid-exact = made-exact _ _ (cut-exact 32 _ _ (only-exact _ _ text-exact)
+    (cut_maybe-exact 32 _ _ (told-exact _) (told-exact _)))
 
-simulcast-exact : IsExact simulcast_line
-simulcast-exact = after-exact (codes "simulcast:") _ (made-exact _ _ (made-exact _ _ (only-exact _ _
+simulcast-exact : IsExact simulcast
+simulcast-exact = made-exact _ _ (only-exact _ _
     (cut-exact 32 _ _ (told-exact _) (cut_maybe-exact 32 _ _ (separated-exact 59 _ (told-exact _))
-    (made-exact _ _ (cut-exact 32 _ _ (told-exact _) (separated-exact 59 _ (told-exact _)))))))))
+    (made-exact _ _ (cut-exact 32 _ _ (told-exact _) (separated-exact 59 _ (told-exact _)))))))
 
-ssrc_group-exact : IsExact ssrc_group_line
-ssrc_group-exact = after-exact (codes "ssrc-group:") _
-    (made-exact _ _ (cut-exact 32 _ _ text-exact (separated-exact 32 _ (told-exact _))))
+ssrc_group-exact : IsExact ssrc_group
+ssrc_group-exact = made-exact _ _ (cut-exact 32 _ _ text-exact (separated-exact 32 _ (told-exact _)))
 
-ssrc-exact : IsExact ssrc_line
-ssrc-exact = after-exact (codes "ssrc:") _
-    (made-exact _ _ (cut-exact 32 _ _ (number-exact (2 ^ 32)) (cut-exact 58 _ _ text-exact text-exact)))
+ssrc-exact : IsExact ssrc
+ssrc-exact = made-exact _ _ (cut-exact 32 _ _ (number-exact (2 ^ 32)) (cut-exact 58 _ _ text-exact text-exact))
 
-last_attribute-exact : IsExact pair_list → IsExact last_attribute
-unfolding last_attribute
-last_attribute-exact pairs =
-    either-exact _ _ (fmtp-exact pairs)
-    (either-exact _ _ rid-exact
-    (either-exact _ _ simulcast-exact
-    (either-exact _ _ ssrc_group-exact
-    (either-exact _ _ ssrc-exact
-    (made-exact _ _ text-exact)))))
-
-third_attribute-exact : IsExact pair_list → IsExact third_attribute
-unfolding third_attribute
-third_attribute-exact pairs =
-    either-exact _ _ (told-exact _)
-    (either-exact _ _ candidate-exact
-    (either-exact _ _ (told-exact _)
-    (either-exact _ _ rtpmap-exact
-    (either-exact _ _ rtcp_fb-exact
-    (last_attribute-exact pairs)))))
-
-second_attribute-exact : IsExact pair_list → IsExact second_attribute
-unfolding second_attribute
-second_attribute-exact pairs =
-    either-exact _ _ sctp_port-exact
-    (either-exact _ _ max_message_size-exact
-    (either-exact _ _ sctp_init-exact
-    (either-exact _ _ extmap-exact
-    (either-exact _ _ (told-exact _)
-    (either-exact _ _ msid-exact
-    (either-exact _ _ rtcp-exact
-    (third_attribute-exact pairs)))))))
+media_kinds-exact : IsExact pair_list → AreExact media_kinds
+media_kinds-exact pairs =
+    let transport = made-transport in_section in (
+      transport.0,
+      (
+        transport.1.0,
+        (
+          transport.1.1.0,
+          (
+            transport.1.1.1.0,
+            (
+              transport.1.1.1.1.0,
+              (
+                made-exact _ _ text-exact,
+                (
+                  made-exact _ _ (number-exact (2 ^ 16)),
+                  (
+                    made-exact _ _ (number-exact (2 ^ 64)),
+                    (
+                      made-exact _ _ text-exact,
+                      (
+                        extmap-exact,
+                        (
+                          tt,
+                          (
+                            made-exact _ _ msid-exact,
+                            (
+                              made-exact _ _ text-exact,
+                              (
+                                tt,
+                                (
+                                  transport.1.1.1.1.1.0,
+                                  (
+                                    tt,
+                                    (
+                                      rtpmap-exact,
+                                      (
+                                        rtcp_fb-exact,
+                                        (
+                                          fmtp-exact pairs,
+                                          (
+                                            rid-exact,
+                                            (
+                                              made-exact _ _ simulcast-exact,
+                                              (
+                                                ssrc_group-exact,
+                                                (ssrc-exact, tt),
+                                              ),
+                                            ),
+                                          ),
+                                        ),
+                                      ),
+                                    ),
+                                  ),
+                                ),
+                              ),
+                            ),
+                          ),
+                        ),
+                      ),
+                    ),
+                  ),
+                ),
+              ),
+            ),
+          ),
+        ),
+      ),
+    )
 
 pub media_attribute-exact : IsExact pair_list → IsExact media_attribute
 unfolding media_attribute
-media_attribute-exact pairs =
-    either-exact _ _ ice_ufrag-exact
-    (either-exact _ _ ice_pwd-exact
-    (either-exact _ _ ice_options-exact
-    (either-exact _ _ fingerprint-exact
-    (either-exact _ _ setup-exact
-    (either-exact _ _ mid-exact
-    (second_attribute-exact pairs))))))
+media_attribute-exact pairs = first_of-exact media_kinds _ (media_kinds-exact pairs) (made-exact _ _ text-exact)

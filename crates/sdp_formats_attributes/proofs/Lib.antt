@@ -1,6 +1,7 @@
 pub mod Characters
+pub mod Choosing
 pub mod Ends
 pub mod Exactness
-pub mod HexNumerals
+pub mod OtherNames
 pub mod PairRounds
 pub mod Printed

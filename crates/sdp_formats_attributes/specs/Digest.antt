@@ -2,7 +2,7 @@
 use Rattle.std.specs.Prelude.{ℕ, ◌+◌, ◌-◌, ◌*◌, ◌&&◌, List, [], ◌∷◌, Option, Some, None, nat_le, if◌then◌else◌}
 use Rattle.sdp_formats_grammar.specs.Bind.{◌>>=◌}
 use Rattle.sdp_formats_grammar.specs.Form.{Form, told, any_text, made, cut, separated}
-use Rattle.sdp_formats_attributes.specs.Fingerprints.{make_fingerprint}
+use Rattle.sdp_formats_values.specs.Fingerprints.{make_fingerprint}
 use Rattle.sdp_formats_values.specs.declared.fingerprint.Fingerprint.{Fingerprint}
 
 -- A hexadecimal digit in either case.

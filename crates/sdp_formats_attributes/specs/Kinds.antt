@@ -1,100 +1,57 @@
 -- Kinds of attributes of a section: what stands behind `a=`.
-use Rattle.std.specs.Prelude.{ℕ, ◌^◌, List, Option, Some, None, codes, if◌then◌else◌}
-use Rattle.std.specs.Str.{bytes_eq}
+use Rattle.std.specs.Prelude.{◌^◌, List, [], ◌∷◌, codes}
 use Rattle.rtp_wire.specs.Name.{name_of}
-use Rattle.sdp_formats_grammar.specs.Form.{Form, told, any_text, number, made, after}
-use Rattle.sdp_formats_attributes.specs.Candidates.{candidate}
-use Rattle.sdp_formats_attributes.specs.Digest.{fingerprint}
-use Rattle.sdp_formats_attributes.specs.Words.{setup_word}
+use Rattle.sdp_formats_grammar.specs.Form.{any_text, number, made}
+use Rattle.sdp_formats_grammar.specs.Kinds.{Kind, Named, OneOf, made_kind}
+use Rattle.sdp_formats_grammar.specs.Tables.{Table}
 use Rattle.sdp_formats_attributes.specs.Maps.{rtpmap, rtcp_fb}
 use Rattle.sdp_formats_attributes.specs.Parameters.{fmtp}
 use Rattle.sdp_formats_attributes.specs.Rids.{rid}
 use Rattle.sdp_formats_attributes.specs.Simulcasts.{simulcast}
 use Rattle.sdp_formats_attributes.specs.Sources.{extmap, msid, ssrc, ssrc_group}
+use Rattle.sdp_formats_attributes.specs.Transport.{in_section, ice_ufrag, ice_pwd, ice_options, fingerprints, setup}
+use Rattle.sdp_formats_attributes.specs.Transport.{candidates, end_of_candidates}
 use Rattle.sdp_formats_data.specs.declared.media.MediaAttribute.{MediaAttribute}
-use Rattle.sdp_formats_data.specs.declared.media.MediaAttribute.TheVariants.{Candidate, EndOfCandidates, Fingerprint}
-use Rattle.sdp_formats_data.specs.declared.media.MediaAttribute.TheVariants.{IceOptions, IcePwd, IceUfrag, Inactive}
-use Rattle.sdp_formats_data.specs.declared.media.MediaAttribute.TheVariants.{MaxMessageSize, Mid, Msid, RecvOnly}
-use Rattle.sdp_formats_data.specs.declared.media.MediaAttribute.TheVariants.{Rtcp, RtcpMux, RtcpMuxOnly, RtcpRsize}
-use Rattle.sdp_formats_data.specs.declared.media.MediaAttribute.TheVariants.{SctpInit, SctpPort, SendOnly, SendRecv}
-use Rattle.sdp_formats_data.specs.declared.media.MediaAttribute.TheVariants.{Setup, Simulcast}
+use Rattle.sdp_formats_data.specs.declared.media.MediaAttribute.TheVariants.{Inactive, MaxMessageSize, Mid, Msid}
+use Rattle.sdp_formats_data.specs.declared.media.MediaAttribute.TheVariants.{RecvOnly, Rtcp, RtcpMux, RtcpMuxOnly}
+use Rattle.sdp_formats_data.specs.declared.media.MediaAttribute.TheVariants.{RtcpRsize, SctpInit, SctpPort, SendOnly}
+use Rattle.sdp_formats_data.specs.declared.media.MediaAttribute.TheVariants.{SendRecv, Simulcast}
 
-abbrev pub ice_ufrag_line : Form MediaAttribute
-ice_ufrag_line = after (codes "ice-ufrag:") (made IceUfrag any_text)
+-- Which way media goes (RFC 8866 6.7).
+abbrev pub direction_words : Table MediaAttribute
+direction_words =
+    (codes "recvonly", RecvOnly) ∷ (codes "sendrecv", SendRecv) ∷ (codes "sendonly", SendOnly)
+    ∷ (codes "inactive", Inactive) ∷ []
 
-abbrev pub ice_pwd_line : Form MediaAttribute
-ice_pwd_line = after (codes "ice-pwd:") (made IcePwd any_text)
+-- How RTCP is sent (RFC 5761 5.1.1, RFC 8858 3, RFC 5506 5).
+abbrev pub rtcp_words : Table MediaAttribute
+rtcp_words =
+    (codes "rtcp-mux", RtcpMux) ∷ (codes "rtcp-mux-only", RtcpMuxOnly) ∷ (codes "rtcp-rsize", RtcpRsize) ∷ []
 
-abbrev pub ice_options_line : Form MediaAttribute
-ice_options_line = after (codes "ice-options:") (made IceOptions any_text)
-
-abbrev pub fingerprint_line : Form MediaAttribute
-fingerprint_line = after (codes "fingerprint:") (made Fingerprint fingerprint)
-
-abbrev pub setup_line : Form MediaAttribute
-setup_line = after (codes "setup:") (made Setup (told setup_word))
-
-abbrev pub mid_line : Form MediaAttribute
-mid_line = after (codes "mid:") (made (λ t. Mid (name_of 16 t)) any_text)
-
-abbrev pub sctp_port_line : Form MediaAttribute
-sctp_port_line = after (codes "sctp-port:") (made SctpPort (number (2 ^ 16)))
-
-abbrev pub max_message_size_line : Form MediaAttribute
-max_message_size_line = after (codes "max-message-size:") (made MaxMessageSize (number (2 ^ 64)))
-
-abbrev pub sctp_init_line : Form MediaAttribute
-sctp_init_line = after (codes "sctp-init:") (made SctpInit any_text)
-
-abbrev pub extmap_line : Form MediaAttribute
-extmap_line = after (codes "extmap:") extmap
-
-abbrev pub msid_line : Form MediaAttribute
-msid_line = after (codes "msid:") (made Msid msid)
-
-abbrev pub rtcp_line : Form MediaAttribute
-rtcp_line = after (codes "rtcp:") (made Rtcp any_text)
-
-abbrev pub candidate_line : Form MediaAttribute
-candidate_line = after (codes "candidate:") (made Candidate (told candidate))
-
-abbrev pub rtpmap_line : Form MediaAttribute
-rtpmap_line = after (codes "rtpmap:") rtpmap
-
-abbrev pub rtcp_fb_line : Form MediaAttribute
-rtcp_fb_line = after (codes "rtcp-fb:") rtcp_fb
-
-abbrev pub fmtp_line : Form MediaAttribute
-fmtp_line = after (codes "fmtp:") fmtp
-
-abbrev pub rid_line : Form MediaAttribute
-rid_line = after (codes "rid:") rid
-
-abbrev pub simulcast_line : Form MediaAttribute
-simulcast_line = after (codes "simulcast:") (made Simulcast simulcast)
-
-abbrev pub ssrc_group_line : Form MediaAttribute
-ssrc_group_line = after (codes "ssrc-group:") ssrc_group
-
-abbrev pub ssrc_line : Form MediaAttribute
-ssrc_line = after (codes "ssrc:") ssrc
-
-abbrev pub direction_word : List ℕ → Option MediaAttribute
-direction_word t =
-    if bytes_eq t (codes "recvonly") then Some RecvOnly
-    else if bytes_eq t (codes "sendrecv") then Some SendRecv
-    else if bytes_eq t (codes "sendonly") then Some SendOnly
-    else if bytes_eq t (codes "inactive") then Some Inactive
-    else None
-
-abbrev pub mux_word : List ℕ → Option MediaAttribute
-mux_word t =
-    if bytes_eq t (codes "rtcp-mux") then Some RtcpMux
-    else if bytes_eq t (codes "rtcp-mux-only") then Some RtcpMuxOnly
-    else if bytes_eq t (codes "rtcp-rsize") then Some RtcpRsize
-    else None
-
-abbrev pub end_word : List ℕ → Option MediaAttribute
-end_word t =
-    if bytes_eq t (codes "end-of-candidates") then Some EndOfCandidates
-    else None
+-- In the order in which they are tried.
+abbrev pub media_kinds : List (Kind MediaAttribute)
+media_kinds =
+    made_kind in_section ice_ufrag
+    ∷ made_kind in_section ice_pwd
+    ∷ made_kind in_section ice_options
+    ∷ made_kind in_section fingerprints
+    ∷ made_kind in_section setup
+    ∷ Named (codes "mid") (made (λ t. Mid (name_of 16 t)) any_text)
+    ∷ Named (codes "sctp-port") (made SctpPort (number (2 ^ 16)))
+    ∷ Named (codes "max-message-size") (made MaxMessageSize (number (2 ^ 64)))
+    ∷ Named (codes "sctp-init") (made SctpInit any_text)
+    ∷ Named (codes "extmap") extmap
+    ∷ OneOf direction_words
+    ∷ Named (codes "msid") (made Msid msid)
+    ∷ Named (codes "rtcp") (made Rtcp any_text)
+    ∷ OneOf rtcp_words
+    ∷ made_kind in_section candidates
+    ∷ made_kind in_section end_of_candidates
+    ∷ Named (codes "rtpmap") rtpmap
+    ∷ Named (codes "rtcp-fb") rtcp_fb
+    ∷ Named (codes "fmtp") fmtp
+    ∷ Named (codes "rid") rid
+    ∷ Named (codes "simulcast") (made Simulcast simulcast)
+    ∷ Named (codes "ssrc-group") ssrc_group
+    ∷ Named (codes "ssrc") ssrc
+    ∷ []

@@ -1,9 +1,6 @@
 pub mod AsRead
-pub mod Candidates
 pub mod Choice
 pub mod Digest
-pub mod Fingerprints
-pub mod FromText
 pub mod Kinds
 pub mod Maps
 pub mod Names
@@ -16,4 +13,5 @@ pub mod Rids
 pub mod Runs
 pub mod Simulcasts
 pub mod Sources
+pub mod Transport
 pub mod Words

@@ -1,172 +1,99 @@
 //! Which kind of line an attribute is.
 
-ghost use Rattle.std.specs.Prelude.{◌≡◌};
+ghost use Rattle.std.specs.Option.{option_map};
+ghost use Rattle.sdp_formats_data.specs.declared.media.MediaAttribute.TheVariants.{Unused};
+ghost use Rattle.sdp_formats_grammar.specs.Form.{any_text, made};
+ghost use Rattle.sdp_formats_grammar.specs.Kinds.{value_of, alone_of, by_name};
 ghost use Rattle.sdp_formats_grammar.specs.Refusals.{Gives};
-ghost use Rattle.sdp_formats_attributes.specs.Kinds.{direction_word, mux_word, end_word};
-ghost use Rattle.sdp_formats_attributes.specs.Choice.{media_attribute, second_attribute, third_attribute};
-ghost use Rattle.sdp_formats_attributes.specs.Choice.{last_attribute};
+ghost use Rattle.sdp_formats_grammar.specs.Split.{split_first};
+ghost use Rattle.sdp_formats_attributes.specs.Choice.{media_attribute};
+ghost use Rattle.sdp_formats_attributes.specs.Kinds.{media_kinds};
+ghost use Rattle.sdp_formats_attributes.specs.Transport.{in_section, transport_kinds};
 
-use crate::attributes::{
-    extmap_line, fmtp_line, msid_line, rid_line, rtcp_fb_line, rtpmap_line, simulcast_line,
-    ssrc_group_line, ssrc_line,
-};
 use crate::laws::pairs_law;
-use crate::transport::{
-    candidate_line, fingerprint_line, ice_options_line, ice_pwd_line, ice_ufrag_line,
-    max_message_size_line, mid_line, rtcp_line, sctp_init_line, sctp_port_line, setup_line,
-};
+use crate::maps::{rtcp_fb, rtpmap};
+use crate::parameters::fmtp;
+use crate::rids::rid;
+use crate::simulcasts::simulcast;
+use crate::sources::{extmap, msid, ssrc, ssrc_group};
+use crate::transport::{transport_value, transport_word};
+use rtp_wire::Mid;
 use sdp_formats_data::MediaAttribute;
-use sdp_formats_grammar::{Lined, Refusal, Stepped, behind, line_of, text_of};
+use sdp_formats_grammar::{
+    Lined, Refusal, Stepped, behind, fitted, line_of, named, number_16, number_64, some, text_of,
+};
 use std::alloc::Global;
 
-fn direction_word(text: &str) -> Option<MediaAttribute>
-    ensures { result ≡ direction_word text.now }
+fn section_transport(alloc: Global, name: &str, value: &str) -> Result<MediaAttribute, Refusal>
+    ensures { Gives result (option_map in_section (value_of transport_kinds name.now value.now)) }
 {
-    match text {
-        "recvonly" => Some(MediaAttribute::RecvOnly),
-        "sendrecv" => Some(MediaAttribute::SendRecv),
-        "sendonly" => Some(MediaAttribute::SendOnly),
-        "inactive" => Some(MediaAttribute::Inactive),
-        _ => None,
+    let attribute = transport_value(alloc, name, value)?;
+    Ok(attribute.in_section())
+}
+
+/// An attribute by its name and its value.
+fn media_value(alloc: Global, name: &str, value: &str) -> Result<MediaAttribute, Refusal>
+    ensures { Gives result (value_of media_kinds name.now value.now) }
+{
+    match name {
+        "mid" => Ok(MediaAttribute::Mid(Mid::from(some(value)?))),
+        "sctp-port" => Ok(MediaAttribute::SctpPort(number_16(value)?)),
+        "max-message-size" => Ok(MediaAttribute::MaxMessageSize(number_64(value)? as usize)),
+        "sctp-init" => Ok(MediaAttribute::SctpInit(text_of(alloc, value)?)),
+        "extmap" => extmap(alloc, value),
+        "msid" => Ok(MediaAttribute::Msid(msid(alloc, value)?)),
+        "rtcp" => Ok(MediaAttribute::Rtcp(text_of(alloc, value)?)),
+        "rtpmap" => rtpmap(value),
+        "rtcp-fb" => rtcp_fb(alloc, value),
+        "fmtp" => fmtp(alloc, value),
+        "rid" => rid(alloc, value),
+        "simulcast" => Ok(MediaAttribute::Simulcast(simulcast(alloc, value)?)),
+        "ssrc-group" => ssrc_group(alloc, value),
+        "ssrc" => ssrc(alloc, value),
+        _ => section_transport(alloc, name, value),
     }
 }
 
-fn mux_word(text: &str) -> Option<MediaAttribute>
-    ensures { result ≡ mux_word text.now }
+/// An attribute that is one word.
+fn media_word(text: &str) -> Result<MediaAttribute, Refusal>
+    ensures { Gives result (alone_of media_kinds text.now) }
 {
     match text {
-        "rtcp-mux" => Some(MediaAttribute::RtcpMux),
-        "rtcp-mux-only" => Some(MediaAttribute::RtcpMuxOnly),
-        "rtcp-rsize" => Some(MediaAttribute::RtcpRsize),
-        _ => None,
+        "recvonly" => Ok(MediaAttribute::RecvOnly),
+        "sendrecv" => Ok(MediaAttribute::SendRecv),
+        "sendonly" => Ok(MediaAttribute::SendOnly),
+        "inactive" => Ok(MediaAttribute::Inactive),
+        "rtcp-mux" => Ok(MediaAttribute::RtcpMux),
+        "rtcp-mux-only" => Ok(MediaAttribute::RtcpMuxOnly),
+        "rtcp-rsize" => Ok(MediaAttribute::RtcpRsize),
+        _ => Ok(transport_word(text)?.in_section()),
     }
 }
 
-fn end_word(text: &str) -> Option<MediaAttribute>
-    ensures { result ≡ end_word text.now }
+fn known_attribute(alloc: Global, text: &str) -> Result<MediaAttribute, Refusal>
+    ensures { Gives result (by_name media_kinds text.now (split_first 58 text.now)) }
 {
-    match text {
-        "end-of-candidates" => Some(MediaAttribute::EndOfCandidates),
-        _ => None,
+    match named(text) {
+        Some((name, value)) => media_value(alloc, name, value),
+        None => media_word(text),
     }
 }
 
-#[tactic(auto, unfolding(crate::specs::Choice::last_attribute))]
-fn last_attribute(alloc: Global, text: &str) -> Result<MediaAttribute, Refusal>
-    ensures { Gives result (last_attribute.reads text.now) }
+/// An attribute of no kind that is known.
+fn unused(alloc: Global, text: &str) -> Result<MediaAttribute, Refusal>
+    ensures { Gives result ((made Unused any_text).reads text.now) }
 {
-    match fmtp_line(alloc, text) {
-        Err(Refusal::Unfit) => {}
-        said => return said,
-    }
-    match rid_line(alloc, text) {
-        Err(Refusal::Unfit) => {}
-        said => return said,
-    }
-    match simulcast_line(alloc, text) {
-        Err(Refusal::Unfit) => {}
-        said => return said,
-    }
-    match ssrc_group_line(alloc, text) {
-        Err(Refusal::Unfit) => {}
-        said => return said,
-    }
-    match ssrc_line(alloc, text) {
-        Err(Refusal::Unfit) => {}
-        said => return said,
-    }
     Ok(MediaAttribute::Unused(text_of(alloc, text)?))
 }
 
-#[tactic(auto, unfolding(crate::specs::Choice::third_attribute))]
-fn third_attribute(alloc: Global, text: &str) -> Result<MediaAttribute, Refusal>
-    ensures { Gives result (third_attribute.reads text.now) }
-{
-    if let Some(attribute) = mux_word(text) {
-        return Ok(attribute);
-    }
-    match candidate_line(alloc, text) {
-        Err(Refusal::Unfit) => {}
-        said => return said,
-    }
-    if let Some(attribute) = end_word(text) {
-        return Ok(attribute);
-    }
-    match rtpmap_line(text) {
-        Err(Refusal::Unfit) => {}
-        said => return said,
-    }
-    match rtcp_fb_line(alloc, text) {
-        Err(Refusal::Unfit) => {}
-        said => return said,
-    }
-    last_attribute(alloc, text)
-}
-
-#[tactic(auto, unfolding(crate::specs::Choice::second_attribute))]
-fn second_attribute(alloc: Global, text: &str) -> Result<MediaAttribute, Refusal>
-    ensures { Gives result (second_attribute.reads text.now) }
-{
-    match sctp_port_line(text) {
-        Err(Refusal::Unfit) => {}
-        said => return said,
-    }
-    match max_message_size_line(text) {
-        Err(Refusal::Unfit) => {}
-        said => return said,
-    }
-    match sctp_init_line(alloc, text) {
-        Err(Refusal::Unfit) => {}
-        said => return said,
-    }
-    match extmap_line(alloc, text) {
-        Err(Refusal::Unfit) => {}
-        said => return said,
-    }
-    if let Some(attribute) = direction_word(text) {
-        return Ok(attribute);
-    }
-    match msid_line(alloc, text) {
-        Err(Refusal::Unfit) => {}
-        said => return said,
-    }
-    match rtcp_line(alloc, text) {
-        Err(Refusal::Unfit) => {}
-        said => return said,
-    }
-    third_attribute(alloc, text)
-}
-
 /// What stands behind `a=`.
-#[tactic(auto, unfolding(crate::specs::Choice::media_attribute))]
 fn media_attribute(alloc: Global, text: &str) -> Result<MediaAttribute, Refusal>
     ensures { Gives result (media_attribute.reads text.now) }
 {
-    match ice_ufrag_line(alloc, text) {
-        Err(Refusal::Unfit) => {}
-        said => return said,
+    match fitted(known_attribute(alloc, text))? {
+        Some(attribute) => Ok(attribute),
+        None => unused(alloc, text),
     }
-    match ice_pwd_line(alloc, text) {
-        Err(Refusal::Unfit) => {}
-        said => return said,
-    }
-    match ice_options_line(alloc, text) {
-        Err(Refusal::Unfit) => {}
-        said => return said,
-    }
-    match fingerprint_line(alloc, text) {
-        Err(Refusal::Unfit) => {}
-        said => return said,
-    }
-    match setup_line(text) {
-        Err(Refusal::Unfit) => {}
-        said => return said,
-    }
-    match mid_line(text) {
-        Err(Refusal::Unfit) => {}
-        said => return said,
-    }
-    second_attribute(alloc, text)
 }
 
 /// A line `a=` of a section.

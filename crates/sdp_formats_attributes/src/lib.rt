@@ -1,11 +1,8 @@
 //! Attribute lines of media sections as they are read.
 #![tactic(auto)]
 
-mod attributes;
-mod candidate_reader;
 mod choice;
 mod digest;
-pub mod from_text;
 mod keyed;
 mod laws;
 mod maps;
@@ -18,7 +15,6 @@ mod sources;
 mod transport;
 mod words;
 
-pub use candidate_reader::candidate_of;
 pub use choice::MediaAttributeLine;
 pub use digest::fingerprint_of;
 pub use keyed::pairs;
@@ -29,4 +25,5 @@ pub use restricted::restrictions;
 pub use rids::rid;
 pub use simulcasts::simulcast;
 pub use sources::{extmap, msid, ssrc, ssrc_group};
+pub use transport::{TransportAttribute, transport_value, transport_word};
 pub use words::setup_of;

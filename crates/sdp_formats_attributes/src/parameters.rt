@@ -12,7 +12,7 @@ use sdp_formats_data::MediaAttribute;
 use sdp_formats_grammar::{
     Listed, Reads, Refusal, behind, has_digits_alone, list_of, number_8, split,
 };
-use sdp_formats_values::{FormatParam, parse_pairs};
+use sdp_formats_values::FormatParam;
 use std::alloc::Global;
 
 // A number of eight bits.
@@ -41,7 +41,7 @@ fn key_values(alloc: Global, text: &str) -> Result<Listed<FormatParam>, Refusal>
     ensures { Gives result (key_values.reads text.now) }
 {
     let pairs = pairs(alloc, text)?;
-    Ok(parse_pairs(alloc, pairs.as_slice())?)
+    Ok(FormatParam::parse_pairs(alloc, pairs.as_slice())?)
 }
 
 fn slash_list(alloc: Global, text: &str) -> Result<Listed<FormatParam>, Refusal>

@@ -1,91 +1,101 @@
-//! Attributes of transport and section.
+//! Attributes of transport, which a session and a section can have alike.
 
+ghost use Rattle.std.specs.Prelude.{◌≡◌};
+ghost use Rattle.sdp_formats_grammar.specs.Kinds.{value_of, alone_of};
 ghost use Rattle.sdp_formats_grammar.specs.Refusals.{Gives};
-ghost use Rattle.sdp_formats_attributes.specs.Kinds.{ice_ufrag_line, ice_pwd_line, ice_options_line};
-ghost use Rattle.sdp_formats_attributes.specs.Kinds.{fingerprint_line, setup_line, candidate_line, sctp_port_line};
-ghost use Rattle.sdp_formats_attributes.specs.Kinds.{max_message_size_line, sctp_init_line, rtcp_line, mid_line};
+ghost use Rattle.sdp_formats_attributes.specs.Transport.{in_session, in_section, transport_kinds};
 
-use crate::candidate_reader::candidate_of;
 use crate::digest::fingerprint_of;
 use crate::words::setup_of;
-use rtp_wire::Mid;
-use sdp_formats_data::MediaAttribute;
-use sdp_formats_grammar::{Refusal, behind, number_16, number_64, some, text_of};
+use sdp_formats_data::{MediaAttribute, SessionAttribute};
+use sdp_formats_grammar::{Refusal, Text, text_of};
+use sdp_formats_values::{Candidate, Fingerprint, Setup, candidate_of};
 use std::alloc::Global;
 
-pub(crate) fn ice_ufrag_line(alloc: Global, text: &str) -> Result<MediaAttribute, Refusal>
-    ensures { Gives result (ice_ufrag_line.reads text.now) }
-{
-    let value = behind(text, "ice-ufrag:")?;
-    Ok(MediaAttribute::IceUfrag(text_of(alloc, value)?))
+/// An attribute of transport, of a session or of a section.
+#[derive(Debug, Drop)]
+pub enum TransportAttribute {
+    /// `a=ice-ufrag` (RFC 8839 5.4).
+    IceUfrag(Text),
+    /// `a=ice-pwd` (RFC 8839 5.4).
+    IcePwd(Text),
+    /// `a=ice-options` (RFC 8839 5.6).
+    IceOptions(Text),
+    /// `a=fingerprint` (RFC 8122 5).
+    Fingerprint(Fingerprint),
+    /// `a=setup` (RFC 4145 4).
+    Setup(Setup),
+    /// `a=candidate` (RFC 8839 5.1).
+    Candidate(Candidate),
+    /// `a=end-of-candidates` (RFC 8840 8.2).
+    EndOfCandidates,
 }
 
-pub(crate) fn ice_pwd_line(alloc: Global, text: &str) -> Result<MediaAttribute, Refusal>
-    ensures { Gives result (ice_pwd_line.reads text.now) }
-{
-    let value = behind(text, "ice-pwd:")?;
-    Ok(MediaAttribute::IcePwd(text_of(alloc, value)?))
+impl TransportAttribute {
+    /// The attribute of a session.
+    pub fn in_session(self) -> SessionAttribute
+        ensures { result ≡ in_session self }
+    {
+        match self {
+            TransportAttribute::IceUfrag(text) => SessionAttribute::IceUfrag(text),
+            TransportAttribute::IcePwd(text) => SessionAttribute::IcePwd(text),
+            TransportAttribute::IceOptions(text) => SessionAttribute::IceOptions(text),
+            TransportAttribute::Fingerprint(print) => SessionAttribute::Fingerprint(print),
+            TransportAttribute::Setup(setup) => SessionAttribute::Setup(setup),
+            TransportAttribute::Candidate(candidate) => SessionAttribute::Candidate(candidate),
+            TransportAttribute::EndOfCandidates => SessionAttribute::EndOfCandidates,
+        }
+    }
+
+    /// The attribute of a section.
+    pub fn in_section(self) -> MediaAttribute
+        ensures { result ≡ in_section self }
+    {
+        match self {
+            TransportAttribute::IceUfrag(text) => MediaAttribute::IceUfrag(text),
+            TransportAttribute::IcePwd(text) => MediaAttribute::IcePwd(text),
+            TransportAttribute::IceOptions(text) => MediaAttribute::IceOptions(text),
+            TransportAttribute::Fingerprint(print) => MediaAttribute::Fingerprint(print),
+            TransportAttribute::Setup(setup) => MediaAttribute::Setup(setup),
+            TransportAttribute::Candidate(candidate) => MediaAttribute::Candidate(candidate),
+            TransportAttribute::EndOfCandidates => MediaAttribute::EndOfCandidates,
+        }
+    }
 }
 
-pub(crate) fn ice_options_line(alloc: Global, text: &str) -> Result<MediaAttribute, Refusal>
-    ensures { Gives result (ice_options_line.reads text.now) }
+/// An attribute of transport by its name and its value.
+///
+/// # Errors
+///
+/// `Unfit` where the name is none of theirs or the value doesn't fit it, `Memory` where memory runs out.
+pub fn transport_value(
+    alloc: Global,
+    name: &str,
+    value: &str,
+) -> Result<TransportAttribute, Refusal>
+    ensures { Gives result (value_of transport_kinds name.now value.now) }
 {
-    let value = behind(text, "ice-options:")?;
-    Ok(MediaAttribute::IceOptions(text_of(alloc, value)?))
+    match name {
+        "ice-ufrag" => Ok(TransportAttribute::IceUfrag(text_of(alloc, value)?)),
+        "ice-pwd" => Ok(TransportAttribute::IcePwd(text_of(alloc, value)?)),
+        "ice-options" => Ok(TransportAttribute::IceOptions(text_of(alloc, value)?)),
+        "fingerprint" => Ok(TransportAttribute::Fingerprint(fingerprint_of(alloc, value)?)),
+        "setup" => Ok(TransportAttribute::Setup(setup_of(value)?)),
+        "candidate" => Ok(TransportAttribute::Candidate(candidate_of(alloc, value)?)),
+        _ => Err(Refusal::Unfit),
+    }
 }
 
-pub(crate) fn fingerprint_line(alloc: Global, text: &str) -> Result<MediaAttribute, Refusal>
-    ensures { Gives result (fingerprint_line.reads text.now) }
+/// An attribute of transport that is one word.
+///
+/// # Errors
+///
+/// `Unfit` where it is no such word.
+pub fn transport_word(text: &str) -> Result<TransportAttribute, Refusal>
+    ensures { Gives result (alone_of transport_kinds text.now) }
 {
-    let value = behind(text, "fingerprint:")?;
-    Ok(MediaAttribute::Fingerprint(fingerprint_of(alloc, value)?))
-}
-
-pub(crate) fn setup_line(text: &str) -> Result<MediaAttribute, Refusal>
-    ensures { Gives result (setup_line.reads text.now) }
-{
-    let value = behind(text, "setup:")?;
-    Ok(MediaAttribute::Setup(setup_of(value)?))
-}
-
-pub(crate) fn candidate_line(alloc: Global, text: &str) -> Result<MediaAttribute, Refusal>
-    ensures { Gives result (candidate_line.reads text.now) }
-{
-    let value = behind(text, "candidate:")?;
-    Ok(MediaAttribute::Candidate(candidate_of(alloc, value)?))
-}
-
-pub(crate) fn sctp_port_line(text: &str) -> Result<MediaAttribute, Refusal>
-    ensures { Gives result (sctp_port_line.reads text.now) }
-{
-    let value = behind(text, "sctp-port:")?;
-    Ok(MediaAttribute::SctpPort(number_16(value)?))
-}
-
-pub(crate) fn max_message_size_line(text: &str) -> Result<MediaAttribute, Refusal>
-    ensures { Gives result (max_message_size_line.reads text.now) }
-{
-    let value = behind(text, "max-message-size:")?;
-    Ok(MediaAttribute::MaxMessageSize(number_64(value)? as usize))
-}
-
-pub(crate) fn sctp_init_line(alloc: Global, text: &str) -> Result<MediaAttribute, Refusal>
-    ensures { Gives result (sctp_init_line.reads text.now) }
-{
-    let value = behind(text, "sctp-init:")?;
-    Ok(MediaAttribute::SctpInit(text_of(alloc, value)?))
-}
-
-pub(crate) fn rtcp_line(alloc: Global, text: &str) -> Result<MediaAttribute, Refusal>
-    ensures { Gives result (rtcp_line.reads text.now) }
-{
-    let value = behind(text, "rtcp:")?;
-    Ok(MediaAttribute::Rtcp(text_of(alloc, value)?))
-}
-
-pub(crate) fn mid_line(text: &str) -> Result<MediaAttribute, Refusal>
-    ensures { Gives result (mid_line.reads text.now) }
-{
-    let value = behind(text, "mid:")?;
-    Ok(MediaAttribute::Mid(Mid::from(some(value)?)))
+    match text {
+        "end-of-candidates" => Ok(TransportAttribute::EndOfCandidates),
+        _ => Err(Refusal::Unfit),
+    }
 }

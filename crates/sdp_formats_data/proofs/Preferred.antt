@@ -8,7 +8,8 @@ use Rattle.std.proofs.lemmas.Grind.{common_steps}
 use Rattle.std.proofs.lemmas.List.Folds.{list_all-append}
 use Rattle.sdp_formats_values.specs.declared.fingerprint.Fingerprint.{Fingerprint}
 use Rattle.sdp_formats_data.specs.declared.media.MediaLine.{MediaLine}
-use Rattle.sdp_formats_data.specs.Preference.{hash_preference, IsFirstOfLowest, IsPreferred}
+use Rattle.sdp_formats_data.specs.Preference.{IsFirstOfLowest, IsPreferred}
+use Rattle.sdp_formats_values.specs.Preference.{hash_preference}
 use Rattle.sdp_formats_data.specs.Preference.{chosen, better, best_of}
 use Rattle.sdp_formats_data.specs.Transport.{first_listed, section_prints}
 

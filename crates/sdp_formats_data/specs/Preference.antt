@@ -1,19 +1,9 @@
 -- Which of several fingerprints is taken (RFC 8122 5).
-use Rattle.std.specs.Prelude.{◌≡◌, ℕ, IsTrue, nat_lt, nat_le, List, [], ◌∷◌, ◌++◌, Option, Some, None, fold, codes}
+use Rattle.std.specs.Prelude.{◌≡◌, ℕ, IsTrue, nat_lt, nat_le, List, [], ◌∷◌, ◌++◌, Option, Some, None, fold}
 use Rattle.std.specs.Prelude.{if◌then◌else◌}
 use Rattle.std.specs.List.{list_all}
-use Rattle.std.specs.Str.{str_eq_ignore_ascii_case}
+use Rattle.sdp_formats_values.specs.Preference.{hash_preference}
 use Rattle.sdp_formats_values.specs.declared.fingerprint.Fingerprint.{Fingerprint}
-
--- The place of a hash function, 0 first: SHA-256, SHA-1, any other; a name in capitals is the same name.
-abbrev pub place_of_hash : List ℕ → ℕ
-place_of_hash name =
-    if str_eq_ignore_ascii_case name (codes "sha-256") then 0
-    else if str_eq_ignore_ascii_case name (codes "sha-1") then 1
-    else 2
-
-unfoldable pub hash_preference : Fingerprint → ℕ
-hash_preference print = place_of_hash print.hash_func
 
 -- It is one of them, none before it has a place as low, and none behind it a lower one.
 pub record IsFirstOfLowest (prints : List Fingerprint) (print : Fingerprint) : Type 0 where

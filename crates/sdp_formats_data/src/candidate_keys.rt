@@ -5,7 +5,6 @@ ghost use Rattle.std.specs.Option.{option_copied, option_map};
 ghost use Rattle.sdp_formats_values.specs.PrintedCandidates.{tcp_type_text};
 ghost use Rattle.sdp_formats_data.specs.Keys.{IsKeyOf, related_of, shown};
 
-use sdp_formats_grammar::Text;
 use sdp_formats_values::{Candidate, RelatedAddress, TcpType};
 
 /// A candidate by all of its fields. Keys are ordered and not hashed, since texts can be made that have one hash.
@@ -23,8 +22,8 @@ pub(crate) struct CandidateKey<'a> {
     ufrag: Option<&'a str>,
 }
 
-fn related_key(related: &Option<RelatedAddress>) -> Option<(&str, u16)>
-    ensures { option_map shown result ≡ option_map related_of related.now }
+fn related_key(related: Option<&RelatedAddress>) -> Option<(&str, u16)>
+    ensures { option_map shown result ≡ option_map related_of (option_copied related.entry) }
 {
     match related {
         Some(related) => Some((related.addr.as_str(), related.port)),
@@ -41,29 +40,20 @@ fn tcp_type_key(tcptype: Option<TcpType>) -> Option<&'static str>
     }
 }
 
-fn ufrag_key(ufrag: &Option<Text>) -> Option<&str>
-    ensures { option_copied result ≡ ufrag.now }
-{
-    match ufrag {
-        Some(ufrag) => Some(ufrag.as_str()),
-        None => None,
-    }
-}
-
 /// The key of a candidate.
 pub(crate) fn candidate_key(candidate: &Candidate) -> CandidateKey<'_>
     ensures { IsKeyOf result candidate.now }
 {
     CandidateKey {
-        foundation: candidate.foundation.as_str(),
-        component_id: candidate.component_id,
-        proto: candidate.proto.as_str(),
-        prio: candidate.prio,
-        addr: candidate.addr.as_str(),
-        port: candidate.port,
-        kind: candidate.kind.as_str(),
-        related: related_key(&candidate.related),
-        tcptype: tcp_type_key(candidate.tcptype),
-        ufrag: ufrag_key(&candidate.ufrag),
+        foundation: candidate.foundation(),
+        component_id: candidate.component_id(),
+        proto: candidate.proto().as_str(),
+        prio: candidate.prio(),
+        addr: candidate.addr(),
+        port: candidate.port(),
+        kind: candidate.kind().as_str(),
+        related: related_key(candidate.related()),
+        tcptype: tcp_type_key(candidate.tcptype()),
+        ufrag: candidate.ufrag(),
     }
 }

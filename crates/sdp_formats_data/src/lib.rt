@@ -40,7 +40,6 @@ pub use error::SdpError;
 pub use faults::{Inconsistency, are_consistent};
 pub use media::{MediaAttribute, MediaLine, RtpMap};
 pub use name_set::NameSet;
-pub use preference::hash_preference;
 pub use printed_whole::{Sections, SessionAttributes};
 pub use rtp_wire::{Mid, SessionId};
 pub use said::is_no_stream;

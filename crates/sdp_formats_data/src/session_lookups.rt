@@ -81,7 +81,7 @@ impl Session {
     }
 
     /// The preferred one of the fingerprints that `a=fingerprint` gives: the first of those with the lowest
-    /// `hash_preference` (RFC 8122 5).
+    /// `Fingerprint::hash_preference` (RFC 8122 5).
     pub fn fingerprint(&self) -> Option<&Fingerprint>
         ensures { IsPreferred (filter_map fingerprint_in self.now.attrs) (option_copied result) }
     {

@@ -1,7 +1,7 @@
 -- What a reader answers.
 use Rattle.std.proofs.Common.{◌≡◌, ℕ, ◌+◌, ◌<◌, List, length, drop, Option, None, Some, Bor, refl}
 use Rattle.std.proofs.Common.{sym, ◌∙◌, ap}
-use Rattle.std.specs.Option.{MatchOption, ok_or, option_copied}
+use Rattle.std.specs.Option.{MatchOption, ok_or, option_copied, option_map}
 use Rattle.std.specs.Str.Pattern.{LacksTextAt, FindsTextPrefix}
 use Rattle.std.proofs.lemmas.Str.Pattern.{IsSplitOnceResult, split_parts}
 use Rattle.sdp_formats_grammar.specs.declared.refusal.Refusal.TheVariants.{Unfit}
@@ -16,6 +16,11 @@ split-gives c text None low h = split_first-nowhere c text (Lacks-from_index c t
 split-gives c text (Some x) low h =
     let parts = split_parts c text (Some x) h low in
     ap (split_first c) parts.0 ∙ split_first-at c x.0.now x.1.now (Lacks-from_index c x.0.now parts.1)
+
+pub named-split : (c : ℕ) (text : List ℕ) (r : Option (Bor (List ℕ) × Bor (List ℕ))) → c < 128
+    → IsSplitOnceResult c text r → option_map parted r ≡ split_first c text
+named-split c text None low h = sym (split-gives c text None low h)
+named-split c text (Some x) low h = sym (split-gives c text (Some x) low h)
 
 none_if : {A : Type 0} (o : Option A) → ((x : A) → o ≡ Some x → ⊥) → o ≡ None
 none_if None never = refl

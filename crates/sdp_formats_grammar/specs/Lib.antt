@@ -3,6 +3,8 @@ pub mod Cuts
 pub mod Exact
 pub mod Form
 pub mod Joined
+pub mod KindLemmas
+pub mod Kinds
 pub mod Line
 pub mod LineLemmas
 pub mod Numbers
@@ -12,4 +14,5 @@ pub mod Split
 pub mod Step
 pub mod StepLemmas
 pub mod Steps
+pub mod Tables
 pub mod Words

@@ -18,7 +18,7 @@ pub use lined::{Lined, line_of};
 pub use listed::Listed;
 pub use numbers::{has_digits_alone, maybe_number_8, number_8, number_16, number_32, number_64};
 pub use primitives::{
-    behind, copied, copy, field, fitted, halves, maybe_some, some, split, stripped, text_of,
+    behind, copied, copy, field, fitted, halves, maybe_some, named, some, split, stripped, text_of,
 };
 pub use reads::{Reads, first_part, list_of};
 pub use refusal::Refusal;

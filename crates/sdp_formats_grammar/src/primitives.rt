@@ -1,7 +1,7 @@
 //! Pieces of a line.
 
 ghost use Rattle.std.specs.Prelude.{◌≡◌, ◌≢◌, ◌<◌, Some, IfErr};
-ghost use Rattle.std.specs.Option.{option_copied};
+ghost use Rattle.std.specs.Option.{option_copied, option_map};
 ghost use Rattle.sdp_formats_grammar.specs.Refusals.{Gives, GivesBy, parted, halved, fielded, fitted_of};
 ghost use Rattle.sdp_formats_grammar.specs.Split.{split_first, behind, halves};
 ghost use Rattle.sdp_formats_grammar.specs.Form.{some_text, maybe, field};
@@ -25,6 +25,14 @@ pub fn split(text: &str, at: char) -> Result<(&str, &str), Refusal>
     ensures never_memory { IfErr result (λ e. e ≢ Refusal.Memory) }
 {
     text.split_once(at).ok_or(Refusal::Unfit)
+}
+
+/// The name of an attribute and its value: what stands before the first colon, and behind it. None where there is no
+/// colon.
+pub fn named(text: &str) -> Option<(&str, &str)>
+    ensures { option_map parted result ≡ split_first 58 text.now }
+{
+    text.split_once(':')
 }
 
 /// What stands before the first such character, and behind it where there is one.

@@ -13,7 +13,7 @@ pub trait Stepped<T: Drop> {
     /// What a text begins with, and what is left behind it.
     ghost says: { List ℕ → T → List ℕ → Type 0 };
 
-    /// Reads what the text begins with, and answers the text behind it, which is shorter.
+    /// Reads what the text begins with, and returns the text behind it, which is shorter.
     fn step(alloc: Global, text: &str) -> Result<(T, &str), Refusal>
         ensures steps { Steps says text.now result }
         ensures shortens { Shortens text.now result };

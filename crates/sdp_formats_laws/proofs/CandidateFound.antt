@@ -9,10 +9,10 @@ use Rattle.sdp_formats_grammar.specs.Form.{field, field_in, maybe, some_text}
 use Rattle.sdp_formats_grammar.specs.Numbers.{number_below}
 use Rattle.sdp_formats_grammar.specs.Split.{Lacks, behind, halves, halves_of, split_first}
 use Rattle.sdp_formats_grammar.specs.Words.{behind-sound}
-use Rattle.sdp_formats_attributes.specs.Candidates.{candidate, candidate_base, candidate_carrier, candidate_fields}
-use Rattle.sdp_formats_attributes.specs.Candidates.{candidate_place, ended, related_behind, related_field, related_in}
-use Rattle.sdp_formats_attributes.specs.Candidates.{tcptype_field, ufrag_field}
-use Rattle.sdp_formats_attributes.specs.Words.{kind_word, protocol_word, tcptype_word}
+use Rattle.sdp_formats_values.specs.Candidates.{candidate, candidate_base, candidate_carrier, candidate_fields}
+use Rattle.sdp_formats_values.specs.Candidates.{candidate_place, ended, related_behind, related_field, related_in}
+use Rattle.sdp_formats_values.specs.Candidates.{tcptype_field, ufrag_field}
+use Rattle.sdp_formats_values.specs.CandidateWords.{kind_word, protocol_word, tcptype_word}
 use Rattle.sdp_formats_values.specs.declared.candidate.Candidate.{Candidate}
 use Rattle.sdp_formats_values.specs.declared.candidate.Protocol.{Protocol}
 use Rattle.sdp_formats_values.specs.declared.candidate.RelatedAddress.{RelatedAddress}

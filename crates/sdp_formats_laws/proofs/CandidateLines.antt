@@ -2,9 +2,10 @@
 use Rattle.std.proofs.Common.{codes, refl, ap, lit<}
 use Rattle.std.specs.Option.{option_map}
 use Rattle.sdp_formats_attributes.specs.Choice.{attribute_line}
-use Rattle.sdp_formats_attributes.specs.Choice.{media_attribute, second_attribute, third_attribute, last_attribute}
+use Rattle.sdp_formats_attributes.specs.Choice.{media_attribute}
+use Rattle.sdp_formats_attributes.specs.Transport.{in_section, in_session}
+use Rattle.sdp_formats_attributes.specs.declared.transport.TransportAttribute.TheVariants as transport
 use Rattle.sdp_formats_reader.specs.Choice.{attribute_line as session_line, session_attribute}
-use Rattle.sdp_formats_reader.specs.Choice.{later_attribute}
 use Rattle.sdp_formats_data.specs.PrintedMedia.{attribute_text}
 use Rattle.sdp_formats_data.specs.PrintedSession.{attribute_text as session_text}
 use Rattle.sdp_formats_values.specs.declared.candidate.Candidate as candidate
@@ -45,18 +46,20 @@ printable_words c h = (
 
 pub candidate_line : (c : candidate.Candidate) → IsPrintableCandidate c
     → IsPrintedAs attribute_line (attribute_text (Candidate c)) (Candidate c)
-unfolding media_attribute second_attribute third_attribute last_attribute attribute_text
+unfolding media_attribute attribute_text
 candidate_line c h = at_text attribute_line _ _ _ (candidate_named c)
     (named_line attribute_line (codes "a=candidate:") (candidate_body c) (Candidate c)
     (named_by (codes "a=candidate:") refl)
     (lacks_candidate 10 c (lit< tt) feed h) (lacks_candidate 13 c (lit< tt) return h)
-    (first_fits _ _ _ (ap (option_map Candidate) (candidate_read c (printable_words c h)))))
+    (first_fits _ _ _ (ap (λ o. option_map in_section (option_map transport.Candidate o))
+    (candidate_read c (printable_words c h)))))
 
 pub session_candidate_line : (c : candidate.Candidate) → IsPrintableCandidate c
     → IsPrintedAs session_line (session_text (session.Candidate c)) (session.Candidate c)
-unfolding session_attribute later_attribute session_text
+unfolding session_attribute session_text
 session_candidate_line c h = at_text session_line _ _ _ (candidate_named c)
     (named_line session_line (codes "a=candidate:") (candidate_body c) (session.Candidate c)
     (named_by (codes "a=candidate:") refl)
     (lacks_candidate 10 c (lit< tt) feed h) (lacks_candidate 13 c (lit< tt) return h)
-    (first_fits _ _ _ (ap (option_map session.Candidate) (candidate_read c (printable_words c h)))))
+    (first_fits _ _ _ (ap (λ o. option_map in_session (option_map transport.Candidate o))
+    (candidate_read c (printable_words c h)))))

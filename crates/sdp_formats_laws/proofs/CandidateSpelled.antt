@@ -5,10 +5,10 @@ use Rattle.sdp_formats_grammar.specs.Cuts.{split_first-at}
 use Rattle.sdp_formats_grammar.specs.Form.{field}
 use Rattle.sdp_formats_grammar.specs.Numbers.{number_below}
 use Rattle.sdp_formats_grammar.specs.Split.{Lacks}
-use Rattle.sdp_formats_attributes.specs.Candidates.{candidate, candidate_base, candidate_carrier, candidate_fields}
-use Rattle.sdp_formats_attributes.specs.Candidates.{candidate_place, related_field, related_in}
-use Rattle.sdp_formats_attributes.specs.Candidates.{tcptype_field, ufrag_field}
-use Rattle.sdp_formats_attributes.specs.Words.{kind_word}
+use Rattle.sdp_formats_values.specs.Candidates.{candidate, candidate_base, candidate_carrier, candidate_fields}
+use Rattle.sdp_formats_values.specs.Candidates.{candidate_place, related_field, related_in}
+use Rattle.sdp_formats_values.specs.Candidates.{tcptype_field, ufrag_field}
+use Rattle.sdp_formats_values.specs.CandidateWords.{kind_word}
 use Rattle.sdp_formats_values.specs.declared.candidate.Candidate.{Candidate}
 use Rattle.sdp_formats_values.specs.declared.candidate.RelatedAddress.{RelatedAddress}
 use Rattle.sdp_formats_laws.proofs.CandidatesLemmas.{behind_blank, field_there, halves-blank, then}

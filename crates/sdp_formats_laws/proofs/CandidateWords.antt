@@ -3,8 +3,8 @@ use Rattle.std.proofs.Common.{◌≡◌, ◌≢◌, ◌^◌, ℕ, List, [], ◌�
 use Rattle.std.proofs.Common.{ap}
 use Rattle.sdp_formats_grammar.specs.Numbers.{number_below}
 use Rattle.sdp_formats_grammar.specs.Split.{Lacks}
-use Rattle.sdp_formats_attributes.specs.Candidates.{candidate}
-use Rattle.sdp_formats_attributes.specs.Words.{kind_word, protocol_word}
+use Rattle.sdp_formats_values.specs.Candidates.{candidate}
+use Rattle.sdp_formats_values.specs.CandidateWords.{kind_word, protocol_word}
 use Rattle.sdp_formats_values.specs.declared.candidate.Candidate.{Candidate}
 use Rattle.sdp_formats_values.specs.declared.candidate.CandidateKind.{CandidateKind}
 use Rattle.sdp_formats_values.specs.declared.candidate.Protocol.{Protocol}

@@ -11,10 +11,10 @@ use Rattle.sdp_formats_grammar.specs.Joined.{maybe_text}
 use Rattle.sdp_formats_grammar.specs.Numbers.{number_below}
 use Rattle.sdp_formats_grammar.specs.Split.{Lacks, halves, halves_of}
 use Rattle.sdp_formats_grammar.specs.Words.{behind-append}
-use Rattle.sdp_formats_attributes.specs.Candidates.{candidate, candidate_base, candidate_carrier, candidate_fields}
-use Rattle.sdp_formats_attributes.specs.Candidates.{candidate_place, related_field, related_in, tcptype_field}
-use Rattle.sdp_formats_attributes.specs.Candidates.{ufrag_field}
-use Rattle.sdp_formats_attributes.specs.Words.{kind_word, protocol_word, tcptype_word}
+use Rattle.sdp_formats_values.specs.Candidates.{candidate, candidate_base, candidate_carrier, candidate_fields}
+use Rattle.sdp_formats_values.specs.Candidates.{candidate_place, related_field, related_in, tcptype_field}
+use Rattle.sdp_formats_values.specs.Candidates.{ufrag_field}
+use Rattle.sdp_formats_values.specs.CandidateWords.{kind_word, protocol_word, tcptype_word}
 use Rattle.sdp_formats_values.specs.PrintedCandidates.{candidate_text, kind_text, parts_text, protocol_text}
 use Rattle.sdp_formats_values.specs.PrintedCandidates.{related_text}
 use Rattle.sdp_formats_values.specs.PrintedCandidates.{tcp_type_text}

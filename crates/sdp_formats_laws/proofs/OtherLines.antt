@@ -8,8 +8,8 @@ use Rattle.sdp_formats_grammar.specs.Bind.{◌>>=◌}
 use Rattle.sdp_formats_grammar.specs.Split.{behind}
 use Rattle.sdp_formats_grammar.specs.Steps.{none_if}
 use Rattle.sdp_formats_grammar.specs.Words.{behind-sound}
-use Rattle.sdp_formats_attributes.specs.Choice.{media_attribute, second_attribute, third_attribute, last_attribute}
-use Rattle.sdp_formats_reader.specs.Choice.{session_attribute, later_attribute}
+use Rattle.sdp_formats_attributes.specs.Choice.{media_attribute}
+use Rattle.sdp_formats_reader.specs.Choice.{session_attribute}
 use Rattle.sdp_formats_data.specs.declared.media.MediaAttribute.TheVariants as section
 use Rattle.sdp_formats_data.specs.declared.session.SessionAttribute.TheVariants as session
 use Rattle.sdp_formats_laws.proofs.Printed.{text_some}
@@ -35,7 +35,7 @@ past : {A : Type 0} (t w : List ℕ) (x y : A) → t ≢ w → cond (bytes_eq t 
 past t w x y h = ap (λ b. cond b x y) (not_word t w h)
 
 pub stays_in_sections : OtherLinesStayInSections
-unfolding media_attribute second_attribute third_attribute last_attribute
+unfolding media_attribute
 stays_in_sections t some h w =
     or_other _ _ (not_there (codes "ice-ufrag:") _ t h.0)
     ∙ or_other _ _ (not_there (codes "ice-pwd:") _ t h.1.0)
@@ -68,7 +68,7 @@ stays_in_sections t some h w =
     ∙ ap (option_map section.Unused) (text_some t some)
 
 pub stays_in_sessions : OtherLinesStayInSessions
-unfolding session_attribute later_attribute
+unfolding session_attribute
 stays_in_sessions t some h w =
     or_other _ _ (not_there (codes "group:") _ t h.0)
     ∙ or_other _ _ (not_there (codes "msid-semantic:") _ t h.1.0)

@@ -11,12 +11,14 @@ use Rattle.sdp_formats_grammar.specs.Form.{any_text, number, cut, cut_maybe, sep
 use Rattle.sdp_formats_grammar.specs.Joined.{spelled, maybe_text}
 use Rattle.sdp_formats_grammar.specs.Split.{Lacks}
 use Rattle.sdp_formats_attributes.specs.Choice.{attribute_line}
-use Rattle.sdp_formats_attributes.specs.Choice.{media_attribute, second_attribute, third_attribute, last_attribute}
+use Rattle.sdp_formats_attributes.specs.Choice.{media_attribute}
 use Rattle.sdp_formats_values.specs.declared.FormatParam.{FormatParam}
 use Rattle.sdp_formats_attributes.specs.Maps.{payload_type, clock_rate, make_map}
 use Rattle.sdp_formats_attributes.specs.AsRead.{params_as_read}
 use Rattle.sdp_formats_attributes.specs.Parameters.{parameters}
 use Rattle.sdp_formats_attributes.specs.Sources.{make_names, ssrc_number}
+use Rattle.sdp_formats_attributes.specs.Transport.{in_section}
+use Rattle.sdp_formats_attributes.specs.declared.transport.TransportAttribute.TheVariants as transport
 use Rattle.sdp_formats_values.specs.PrintedValues.{is_empty, line_end}
 use Rattle.sdp_formats_data.specs.PrintedMedia.{params_text}
 use Rattle.sdp_formats_values.specs.Lists.{numbers_text, named}
@@ -29,7 +31,7 @@ use Rattle.sdp_formats_data.specs.declared.media.MediaAttribute.TheVariants.{Rtp
 use Rattle.sdp_formats_data.specs.declared.media.MediaAttribute.TheVariants.{RtcpFb, Fmtp, SsrcGroup}
 use Rattle.sdp_formats_data.specs.declared.media.MediaAttribute.TheVariants.{Ssrc, Unused}
 use Rattle.sdp_formats_laws.proofs.Decimals.{number_below-decimal, Lacks-decimal}
-use Rattle.sdp_formats_attributes.specs.Fingerprints.{make_fingerprint}
+use Rattle.sdp_formats_values.specs.Fingerprints.{make_fingerprint}
 use Rattle.sdp_formats_values.specs.declared.fingerprint.Fingerprint as print_of
 use Rattle.sdp_formats_data.specs.declared.media.MediaAttribute.TheVariants.{Fingerprint}
 use Rattle.sdp_formats_laws.proofs.Fingerprints.{digest_text, lacks_digest, fingerprint_reads}
@@ -43,7 +45,7 @@ use Rattle.sdp_formats_laws.specs.Printable.{LacksLineEnds}
 
 pub rtcp_fb : (pt : ℕ) (v : List ℕ) → pt ≤ 127 → IsText v
     → IsPrintedAs attribute_line (attribute_text (RtcpFb pt v)) (RtcpFb pt v)
-unfolding media_attribute second_attribute third_attribute last_attribute attribute_text
+unfolding media_attribute attribute_text
 rtcp_fb pt v low h = at_text attribute_line _ _ _ (two_parts (codes "a=rtcp-fb:") (decimal pt) v 32)
     (named_line attribute_line (codes "a=rtcp-fb:") (decimal pt ++ 32 ∷ v) (RtcpFb pt v)
     (named_by (codes "a=rtcp-fb:") refl)
@@ -54,7 +56,7 @@ rtcp_fb pt v low h = at_text attribute_line _ _ _ (two_parts (codes "a=rtcp-fb:"
 
 pub msid : (m : names.Msid) → IsWord m.stream_id → IsText m.track_id
     → IsPrintedAs attribute_line (attribute_text (Msid m)) (Msid m)
-unfolding media_attribute second_attribute third_attribute last_attribute attribute_text
+unfolding media_attribute attribute_text
 msid m stream track = named_line attribute_line (codes "a=msid:") (m.stream_id ++ 32 ∷ m.track_id) (Msid m)
     (named_by (codes "a=msid:") refl)
     (lacks_two 10 32 m.stream_id m.track_id stream.0.1 (λ e. cc) track.1)
@@ -65,7 +67,7 @@ msid m stream track = named_line attribute_line (codes "a=msid:") (m.stream_id +
 
 pub extmap_line : (id : ℕ) (ext : Extension) → id < 2 ^ 8 → IsWord (uri_of ext) → extension_of (uri_of ext) ≡ ext
     → IsPrintedAs attribute_line (attribute_text (ExtMap id ext)) (ExtMap id ext)
-unfolding media_attribute second_attribute third_attribute last_attribute attribute_text
+unfolding media_attribute attribute_text
 extmap_line id ext small h same = at_text attribute_line _ _ _
     (two_parts (codes "a=extmap:") (decimal id) (uri_of ext) 32)
     (named_line attribute_line (codes "a=extmap:") (decimal id ++ 32 ∷ uri_of ext) (ExtMap id ext)
@@ -82,7 +84,7 @@ extmap_line id ext small h same = at_text attribute_line _ _ _
 
 pub ssrc : (s : ℕ) (attr v : List ℕ) → s < 2 ^ 32 → IsText attr → Lacks 58 attr → IsText v
     → IsPrintedAs attribute_line (attribute_text (Ssrc s attr v)) (Ssrc s attr v)
-unfolding media_attribute second_attribute third_attribute last_attribute attribute_text
+unfolding media_attribute attribute_text
 ssrc s attr v small h colon k = at_text attribute_line _ _ _
     (ap (λ t. codes "a=ssrc:" ++ (decimal s ++ 32 ∷ t)) (sym (append_assoc attr (58 ∷ v) line_end))
     ∙ two_parts (codes "a=ssrc:") (decimal s) (attr ++ 58 ∷ v) 32)
@@ -106,7 +108,7 @@ named_params pt params = spelled (codes "a=fmtp:" ∷ decimal pt ∷ codes " " �
 pub fmtp_line : (pt : ℕ) (p : FormatParam) (ps : List FormatParam) → pt ≤ 127
     → LacksLineEnds (params_text (p ∷ ps)) → parameters.reads (params_text (p ∷ ps)) ≡ Some (params_as_read (p ∷ ps))
     → IsPrintedAs attribute_line (attribute_text (Fmtp pt (p ∷ ps))) (Fmtp pt (params_as_read (p ∷ ps)))
-unfolding media_attribute second_attribute third_attribute last_attribute attribute_text listed_text
+unfolding media_attribute attribute_text listed_text
 fmtp_line pt p ps low h reads = at_text attribute_line _ _ _
     (ap (λ b. cond b [] (named_params pt (params_text (p ∷ ps)))) (some_there p ps)
     ∙ two_parts (codes "a=fmtp:") (decimal pt) (params_text (p ∷ ps)) 32)
@@ -129,7 +131,7 @@ lacks_numbers c limit s (n ∷ ss) low other wide below = lacks_two c 32 (decima
 
 pub ssrc_group : (semantics : List ℕ) (s : ℕ) (ss : List ℕ) → IsWord semantics → AreBelow (2 ^ 32) (s ∷ ss)
     → IsPrintedAs attribute_line (attribute_text (SsrcGroup semantics (s ∷ ss))) (SsrcGroup semantics (s ∷ ss))
-unfolding media_attribute second_attribute third_attribute last_attribute attribute_text listed_text
+unfolding media_attribute attribute_text listed_text
 ssrc_group semantics s ss h below = at_text attribute_line _ _ _
     (two_parts (codes "a=ssrc-group:") semantics (numbers_text (codes " ") (s ∷ ss)) 32)
     (named_line attribute_line (codes "a=ssrc-group:") (semantics ++ 32 ∷ numbers_text (codes " ") (s ∷ ss))
@@ -166,7 +168,7 @@ lacks_rates c rate (Some n) low fits few = lacks_two c 47 (decimal rate) (decima
 
 pub rtpmap_line : (pt : ℕ) (m : map_of.RtpMap) → pt ≤ 127 → IsPrintableMap m
     → IsPrintedAs attribute_line (attribute_text (RtpMap pt m)) (RtpMap pt m)
-unfolding media_attribute second_attribute third_attribute last_attribute attribute_text
+unfolding media_attribute attribute_text
 rtpmap_line pt m low h =
     let rates = rates_text m.clock_rate m.channels in
     let fits = h.4 in
@@ -195,7 +197,7 @@ unused v h reads = named_line attribute_line (codes "a=") v (Unused v) (named_by
 
 pub fingerprint_line : (f : print_of.Fingerprint) → IsPrintableDigest f.hash_func f.bytes
     → IsPrintedAs attribute_line (attribute_text (Fingerprint f)) (Fingerprint f)
-unfolding media_attribute second_attribute third_attribute last_attribute attribute_text
+unfolding media_attribute attribute_text
 fingerprint_line f h = by_bytes f f.bytes refl h
   where
     by_bytes : (f : print_of.Fingerprint) (bytes : List ℕ) → f.bytes ≡ bytes → IsPrintableDigest f.hash_func bytes
@@ -209,4 +211,5 @@ fingerprint_line f h = by_bytes f f.bytes refl h
         (Fingerprint (make_fingerprint (f.hash_func, b ∷ bs))) (named_by (codes "a=fingerprint:") refl)
         (lacks_two 10 32 f.hash_func (digest_text (b ∷ bs)) h.0.0.1 (λ e. cc) (lacks_digest 10 b bs (lit< tt) h.1))
         (lacks_two 13 32 f.hash_func (digest_text (b ∷ bs)) h.0.0.2 (λ e. cc) (lacks_digest 13 b bs (lit< tt) h.1))
-        (first_fits _ _ _ (ap (option_map Fingerprint) (fingerprint_reads f.hash_func b bs h.0 h.1))))
+        (first_fits _ _ _ (ap (λ o. option_map in_section (option_map transport.Fingerprint o))
+        (fingerprint_reads f.hash_func b bs h.0 h.1))))

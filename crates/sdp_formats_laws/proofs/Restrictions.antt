@@ -10,7 +10,7 @@ use Rattle.sdp_formats_grammar.specs.Form.{cut_maybe, passed, told}
 use Rattle.sdp_formats_grammar.specs.Joined.{each_behind}
 use Rattle.sdp_formats_grammar.specs.Split.{Lacks, behind}
 use Rattle.sdp_formats_attributes.specs.Choice.{attribute_line}
-use Rattle.sdp_formats_attributes.specs.Choice.{media_attribute, second_attribute, third_attribute, last_attribute}
+use Rattle.sdp_formats_attributes.specs.Choice.{media_attribute}
 use Rattle.sdp_formats_attributes.specs.Pairs.{restrictions_of}
 use Rattle.sdp_formats_attributes.specs.PrintedPairs.{RestrictionsComeBack, pairs_text}
 use Rattle.sdp_formats_values.specs.PrintedParameters.{pair_text}
@@ -164,7 +164,7 @@ made_back id d (pt ∷ pts) ps h = (λ i. Rid (record { 0 = id.0; 1 = sym h i })
 pub rid_line : RestrictionsComeBack → (id : RestrictionId) (d : RidDirection) (pts : List ℕ) (ps : List Pair)
     → id.1 ≡ true → IsName id.0 → AreLimits pts ps
     → IsPrintedAs attribute_line (attribute_text (Rid id d pts ps)) (Rid id d pts ps)
-unfolding media_attribute second_attribute third_attribute last_attribute attribute_text listed_text
+unfolding media_attribute attribute_text listed_text
 rid_line back id d pts ps active h limits =
     let tail = behind_blank (limits_tail pts ps) in
     at_text attribute_line _ _ _

@@ -9,7 +9,9 @@ use Rattle.sdp_formats_grammar.specs.Cuts.{other_byte}
 use Rattle.sdp_formats_grammar.specs.Form.{any_text, some_text, cut_maybe, separated, told}
 use Rattle.sdp_formats_grammar.specs.Joined.{joined, spelled}
 use Rattle.sdp_formats_grammar.specs.Split.{Lacks}
-use Rattle.sdp_formats_reader.specs.Choice.{attribute_line, session_attribute, later_attribute}
+use Rattle.sdp_formats_attributes.specs.Transport.{in_session}
+use Rattle.sdp_formats_attributes.specs.declared.transport.TransportAttribute.TheVariants as transport
+use Rattle.sdp_formats_reader.specs.Choice.{attribute_line, session_attribute}
 use Rattle.sdp_formats_reader.specs.Groups.{without_last, mid_word, mids_of}
 use Rattle.sdp_formats_values.specs.PrintedValues.{line_end, is_empty}
 use Rattle.sdp_formats_values.specs.Lists.{words_text, named}
@@ -22,7 +24,7 @@ use Rattle.sdp_formats_data.specs.declared.session.SessionAttribute.TheVariants.
 use Rattle.sdp_formats_data.specs.declared.session.SessionAttribute.TheVariants.{IceUfrag}
 use Rattle.sdp_formats_data.specs.declared.session.SessionAttribute.TheVariants.{IcePwd, IceOptions, Setup}
 use Rattle.sdp_formats_data.specs.declared.session.SessionAttribute.TheVariants.{EndOfCandidates, Unused}
-use Rattle.sdp_formats_attributes.specs.Fingerprints.{make_fingerprint}
+use Rattle.sdp_formats_values.specs.Fingerprints.{make_fingerprint}
 use Rattle.sdp_formats_values.specs.declared.fingerprint.Fingerprint as print_of
 use Rattle.sdp_formats_data.specs.declared.session.SessionAttribute.TheVariants.{Fingerprint}
 use Rattle.sdp_formats_laws.proofs.Fingerprints.{digest_text, lacks_digest, fingerprint_reads}
@@ -36,36 +38,37 @@ use Rattle.sdp_formats_laws.specs.Printable.{IsPrintableDigest, IsText, IsWord}
 use Rattle.sdp_formats_laws.specs.PrintableSession.{AreWords, AreMids}
 
 pub ice_lite : IsPrintedAs attribute_line (attribute_text IceLite) IceLite
-unfolding session_attribute later_attribute attribute_text
+unfolding session_attribute attribute_text
 ice_lite = fixed_line attribute_line (codes "a=ice-lite") IceLite refl refl
 
 pub end_of_candidates : IsPrintedAs attribute_line (attribute_text EndOfCandidates) EndOfCandidates
-unfolding session_attribute later_attribute attribute_text
+unfolding session_attribute attribute_text
 end_of_candidates = fixed_line attribute_line (codes "a=end-of-candidates") EndOfCandidates refl refl
 
 -- a line that is read as one of no known kind
 pub allow_mixed : IsPrintedAs attribute_line (attribute_text AllowMixedExts) (Unused (codes "extmap-allow-mixed"))
-unfolding session_attribute later_attribute attribute_text
+unfolding session_attribute attribute_text
 allow_mixed = fixed_line attribute_line (codes "a=extmap-allow-mixed") (Unused (codes "extmap-allow-mixed")) refl refl
 
 pub ice_ufrag : (v : List ℕ) → IsText v → IsPrintedAs attribute_line (named (codes "a=ice-ufrag:") v) (IceUfrag v)
-unfolding session_attribute later_attribute
+unfolding session_attribute
 ice_ufrag v h = named_line attribute_line (codes "a=ice-ufrag:") v (IceUfrag v) (named_by (codes "a=ice-ufrag:") refl)
-    h.1 h.2 (first_fits _ _ _ (ap (option_map IceUfrag) (text_some v h.0)))
+    h.1 h.2 (first_fits _ _ _ (ap (λ o. option_map in_session (option_map transport.IceUfrag o)) (text_some v h.0)))
 
 pub ice_pwd : (v : List ℕ) → IsText v → IsPrintedAs attribute_line (named (codes "a=ice-pwd:") v) (IcePwd v)
-unfolding session_attribute later_attribute
+unfolding session_attribute
 ice_pwd v h = named_line attribute_line (codes "a=ice-pwd:") v (IcePwd v) (named_by (codes "a=ice-pwd:") refl) h.1 h.2
-    (first_fits _ _ _ (ap (option_map IcePwd) (text_some v h.0)))
+    (first_fits _ _ _ (ap (λ o. option_map in_session (option_map transport.IcePwd o)) (text_some v h.0)))
 
 pub ice_options : (v : List ℕ) → IsText v
     → IsPrintedAs attribute_line (named (codes "a=ice-options:") v) (IceOptions v)
-unfolding session_attribute later_attribute
+unfolding session_attribute
 ice_options v h = named_line attribute_line (codes "a=ice-options:") v (IceOptions v)
-    (named_by (codes "a=ice-options:") refl) h.1 h.2 (first_fits _ _ _ (ap (option_map IceOptions) (text_some v h.0)))
+    (named_by (codes "a=ice-options:") refl) h.1 h.2
+    (first_fits _ _ _ (ap (λ o. option_map in_session (option_map transport.IceOptions o)) (text_some v h.0)))
 
 pub setup_line : (s : setup.Setup) → IsPrintedAs attribute_line (attribute_text (Setup s)) (Setup s)
-unfolding session_attribute later_attribute attribute_text
+unfolding session_attribute attribute_text
 setup_line way.ActPass = fixed_line attribute_line (codes "a=setup:actpass") (Setup way.ActPass) refl refl
 setup_line way.Active = fixed_line attribute_line (codes "a=setup:active") (Setup way.Active) refl refl
 setup_line way.Passive = fixed_line attribute_line (codes "a=setup:passive") (Setup way.Passive) refl refl
@@ -146,7 +149,7 @@ named_group typ words = spelled (codes "a=group:" ∷ typ ∷ codes " " ∷ word
 
 pub group_line : (typ : List ℕ) (mids : List (List ℕ)) → IsWord typ → AreMids mids
     → IsPrintedAs attribute_line (attribute_text (Group typ mids)) (Group typ mids)
-unfolding session_attribute later_attribute attribute_text
+unfolding session_attribute attribute_text
 group_line typ [] h k = named_line attribute_line (codes "a=group:") typ (Group typ [])
     (named_by (codes "a=group:") refl)
     h.0.1 h.0.2 (first_fits _ _ _ (
@@ -179,7 +182,7 @@ group_line typ (m ∷ ms) h k =
 
 pub msid_semantic_line : (semantic s : List ℕ) (ss : List (List ℕ)) → IsWord semantic → AreWords (s ∷ ss)
     → IsPrintedAs attribute_line (attribute_text (MsidSemantic semantic (s ∷ ss))) (MsidSemantic semantic (s ∷ ss))
-unfolding session_attribute later_attribute attribute_text
+unfolding session_attribute attribute_text
 msid_semantic_line semantic s ss h k =
     let words = words_text (s ∷ ss) in
     at_text attribute_line _ _ _ (two_parts (codes "a=msid-semantic: ") semantic words 32)
@@ -194,7 +197,7 @@ msid_semantic_line semantic s ss h k =
 
 pub fingerprint_line : (f : print_of.Fingerprint) → IsPrintableDigest f.hash_func f.bytes
     → IsPrintedAs attribute_line (attribute_text (Fingerprint f)) (Fingerprint f)
-unfolding session_attribute later_attribute attribute_text
+unfolding session_attribute attribute_text
 fingerprint_line f h = by_bytes f f.bytes refl h
   where
     by_bytes : (f : print_of.Fingerprint) (bytes : List ℕ) → f.bytes ≡ bytes → IsPrintableDigest f.hash_func bytes
@@ -208,4 +211,5 @@ fingerprint_line f h = by_bytes f f.bytes refl h
         (Fingerprint (make_fingerprint (f.hash_func, b ∷ bs))) (named_by (codes "a=fingerprint:") refl)
         (lacks_two 10 32 f.hash_func (digest_text (b ∷ bs)) h.0.0.1 (λ e. cc) (lacks_digest 10 b bs (lit< tt) h.1))
         (lacks_two 13 32 f.hash_func (digest_text (b ∷ bs)) h.0.0.2 (λ e. cc) (lacks_digest 13 b bs (lit< tt) h.1))
-        (first_fits _ _ _ (ap (option_map Fingerprint) (fingerprint_reads f.hash_func b bs h.0 h.1))))
+        (first_fits _ _ _ (ap (λ o. option_map in_session (option_map transport.Fingerprint o))
+        (fingerprint_reads f.hash_func b bs h.0 h.1))))

@@ -10,7 +10,7 @@ use Rattle.sdp_formats_grammar.specs.Joined.{joined}
 use Rattle.sdp_formats_grammar.specs.Pieces.{head}
 use Rattle.sdp_formats_grammar.specs.Split.{Lacks, behind}
 use Rattle.sdp_formats_attributes.specs.Choice.{attribute_line}
-use Rattle.sdp_formats_attributes.specs.Choice.{media_attribute, second_attribute, third_attribute, last_attribute}
+use Rattle.sdp_formats_attributes.specs.Choice.{media_attribute}
 use Rattle.sdp_formats_attributes.specs.Rids.{way}
 use Rattle.sdp_formats_attributes.specs.Simulcasts.{direction_layers, first_layer, grouped, groups, is_other, layer}
 use Rattle.sdp_formats_attributes.specs.Simulcasts.{make_id, make_layer, make_way, other_layers}
@@ -155,7 +155,7 @@ ways_shape (s ∷ ss) (r ∷ rs) h =
 
 pub simulcast_line : (s : ways.Simulcast) → s.is_munged ≡ false → AreWays s.send.0 s.recv.0
     → IsPrintedAs attribute_line (attribute_text (Simulcast s)) (Simulcast s)
-unfolding media_attribute second_attribute third_attribute last_attribute attribute_text simulcast_text
+unfolding media_attribute attribute_text simulcast_text
 simulcast_line s munged h = at_text attribute_line _ _ _
     (ap (λ b. cond b [] (ways_text (is_empty s.send.0) (is_empty s.recv.0) (layers_text s.send) (layers_text s.recv)))
     munged ∙ ways_shape s.send.0 s.recv.0 h)

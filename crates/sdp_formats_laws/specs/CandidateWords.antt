@@ -4,8 +4,8 @@ use Rattle.sdp_formats_grammar.specs.Form.{maybe}
 use Rattle.sdp_formats_grammar.specs.Joined.{joined}
 use Rattle.sdp_formats_grammar.specs.Numbers.{number_below}
 use Rattle.sdp_formats_grammar.specs.Split.{Lacks}
-use Rattle.sdp_formats_attributes.specs.Candidates.{candidate}
-use Rattle.sdp_formats_attributes.specs.Words.{kind_word, protocol_word, tcptype_word}
+use Rattle.sdp_formats_values.specs.Candidates.{candidate}
+use Rattle.sdp_formats_values.specs.CandidateWords.{kind_word, protocol_word, tcptype_word}
 use Rattle.sdp_formats_values.specs.declared.candidate.Candidate.{Candidate}
 use Rattle.sdp_formats_values.specs.declared.candidate.RelatedAddress.{RelatedAddress}
 use Rattle.sdp_formats_laws.specs.PrintableTexts.{IsEach}

@@ -1,8 +1,8 @@
 -- Values with texts of their own: candidates (RFC 8839 5.1) and fingerprints (RFC 8122 5).
 use Rattle.std.specs.Prelude.{◌≡◌, ◌<◌, ◌↔◌, ◌^◌, ℕ, List, [], ◌∷◌, ◌++◌, codes, Some, IfSome}
 use Rattle.sdp_formats_grammar.specs.Split.{Lacks}
-use Rattle.sdp_formats_attributes.specs.FromText.{print_in_text}
-use Rattle.sdp_formats_attributes.specs.Candidates.{candidate}
+use Rattle.sdp_formats_values.specs.FromText.{print_in_text}
+use Rattle.sdp_formats_values.specs.Candidates.{candidate}
 use Rattle.sdp_formats_attributes.specs.Digest.{fingerprint}
 use Rattle.sdp_formats_values.specs.PrintedValues.{fingerprint_text}
 use Rattle.sdp_formats_values.specs.PrintedCandidates.{candidate_text}

@@ -20,7 +20,8 @@ pub fn one_reading_law()
 }
 
 /// The lines of a section that is read of a text have modes of AMR-WB (RFC 4867 8.2), numbers of decoding order
-/// (RFC 7798 7.1) and `profile-id` of their widths, and header extensions that are those of their own URIs (RFC 8285 5).
+/// (RFC 7798 7.1) and `profile-id` of their widths, and header extensions that are those of their own URIs
+/// (RFC 8285 5).
 pub fn read_lines_law()
     ensures { ReadLinesAreSound }
 {}

@@ -1,29 +1,22 @@
--- Which kind of line an attribute is: the first, in this order, that fits (RFC 8866 5.13).
-use Rattle.std.specs.Prelude.{codes}
-use Rattle.sdp_formats_grammar.specs.Form.{Form, told, any_text, made, after, either}
-use Rattle.sdp_formats_reader.specs.Kinds.{group_line, msid_semantic_line, ice_ufrag_line, ice_pwd_line}
-use Rattle.sdp_formats_reader.specs.Kinds.{ice_options_line, fingerprint_line, setup_line, candidate_line}
-use Rattle.sdp_formats_reader.specs.Kinds.{ice_lite, end_word}
+-- Which kind of line an attribute is: the first, in the order of the kinds, that fits (RFC 8866 5.13).
+use Rattle.std.specs.Prelude.{List, [], ◌∷◌, codes, map}
+use Rattle.sdp_formats_grammar.specs.Form.{Form, any_text, made, after}
+use Rattle.sdp_formats_grammar.specs.Kinds.{Kind, Named, OneOf, made_kind, first_of}
+use Rattle.sdp_formats_attributes.specs.Transport.{in_session, transport_kinds}
+use Rattle.sdp_formats_reader.specs.Groups.{group, msid_semantic}
 use Rattle.sdp_formats_data.specs.declared.session.SessionAttribute.{SessionAttribute}
-use Rattle.sdp_formats_data.specs.declared.session.SessionAttribute.TheVariants.{Unused}
+use Rattle.sdp_formats_data.specs.declared.session.SessionAttribute.TheVariants.{IceLite, Unused}
 
-unfoldable pub later_attribute : Form SessionAttribute
-later_attribute =
-    either fingerprint_line
-    (either setup_line
-    (either candidate_line
-    (either (told end_word)
-    (made Unused any_text))))
+-- In the order in which they are tried.
+abbrev pub session_kinds : List (Kind SessionAttribute)
+session_kinds =
+    Named (codes "group") group
+    ∷ Named (codes "msid-semantic") msid_semantic
+    ∷ OneOf ((codes "ice-lite", IceLite) ∷ [])
+    ∷ map (made_kind in_session) transport_kinds
 
 unfoldable pub session_attribute : Form SessionAttribute
-session_attribute =
-    either group_line
-    (either msid_semantic_line
-    (either (told ice_lite)
-    (either ice_ufrag_line
-    (either ice_pwd_line
-    (either ice_options_line
-    later_attribute)))))
+session_attribute = first_of session_kinds (made Unused any_text)
 
 -- A line `a=`.
 abbrev pub attribute_line : Form SessionAttribute

@@ -1,11 +1,12 @@
 -- The lines `o=` and `m=` (RFC 8866 5.2 and 5.14).
-use Rattle.std.specs.Prelude.{ℕ, ◌^◌, ◌==◌, Bool, ◌||◌, List, [], Option, Some, None, length, is_some, unwrap_or}
+use Rattle.std.specs.Prelude.{ℕ, ◌^◌, ◌==◌, Bool, ◌||◌, List, [], ◌∷◌, Option, Some, None, length, is_some, unwrap_or}
 use Rattle.std.specs.Prelude.{codes, if◌then◌else◌}
-use Rattle.std.specs.Option.{option_map}
+use Rattle.std.specs.Option.{option_map, option_or}
 use Rattle.std.specs.Str.{bytes_eq}
 use Rattle.sdp_formats_grammar.specs.Form.{Form, told, any_text, some_text, made, cut, each}
 use Rattle.sdp_formats_grammar.specs.Numbers.{has_digits_alone, number_below}
 use Rattle.sdp_formats_grammar.specs.Split.{behind, parts}
+use Rattle.sdp_formats_grammar.specs.Tables.{Table, word_of}
 use Rattle.sdp_formats_reader.specs.declared.media.MediaHead.{MediaHead}
 use Rattle.sdp_formats_data.specs.declared.MediaType.{MediaType}
 use Rattle.sdp_formats_data.specs.declared.MediaType.TheVariants.{Audio, Video, Application, Unknown}
@@ -27,21 +28,20 @@ is_begun t = is_some (behind (codes "audio") t)
 abbrev pub unknown_type : List ℕ → Option MediaType
 unknown_type t = if is_begun t then None else option_map Unknown (some_text t)
 
+-- The kinds that are known.
+abbrev pub media_types : Table MediaType
+media_types = (codes "audio", Audio) ∷ (codes "video", Video) ∷ (codes "application", Application) ∷ []
+
 -- A kind's name, or a word that doesn't begin with one.
 abbrev pub media_type : List ℕ → Option MediaType
-media_type t =
-    if bytes_eq t (codes "audio") then Some Audio
-    else if bytes_eq t (codes "video") then Some Video
-    else if bytes_eq t (codes "application") then Some Application
-    else unknown_type t
+media_type t = option_or (word_of media_types t) (unknown_type t)
 
 -- RTP with feedback over DTLS (RFC 5764 8), or SCTP over DTLS, also by its older name (RFC 8841 4)
+abbrev pub protos : Table Proto
+protos = (codes "UDP/TLS/RTP/SAVPF", Srtp) ∷ (codes "DTLS/SCTP", Sctp) ∷ (codes "UDP/DTLS/SCTP", Sctp) ∷ []
+
 abbrev pub proto : List ℕ → Option Proto
-proto t =
-    if bytes_eq t (codes "UDP/TLS/RTP/SAVPF") then Some Srtp
-    else if bytes_eq t (codes "DTLS/SCTP") then Some Sctp
-    else if bytes_eq t (codes "UDP/DTLS/SCTP") then Some Sctp
-    else None
+proto t = word_of protos t
 
 abbrev pub pt_number : List ℕ → Option ℕ
 pt_number t = number_below (2 ^ 8) t

@@ -3,7 +3,6 @@ pub mod Choice
 pub mod Grammar
 pub mod Groups
 pub mod Heads
-pub mod Kinds
 pub mod Lines
 pub mod OneMoreAttribute
 pub mod ReaderErrors

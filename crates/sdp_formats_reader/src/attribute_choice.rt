@@ -1,67 +1,72 @@
 //! Which kind of line an attribute is.
 
+ghost use Rattle.std.specs.Option.{option_map};
+ghost use Rattle.sdp_formats_data.specs.declared.session.SessionAttribute.TheVariants.{Unused};
+ghost use Rattle.sdp_formats_grammar.specs.Form.{any_text, made};
+ghost use Rattle.sdp_formats_grammar.specs.Kinds.{value_of, alone_of, by_name};
 ghost use Rattle.sdp_formats_grammar.specs.Refusals.{Gives};
-ghost use Rattle.sdp_formats_reader.specs.Choice.{session_attribute, later_attribute};
+ghost use Rattle.sdp_formats_grammar.specs.Split.{split_first};
+ghost use Rattle.sdp_formats_attributes.specs.Transport.{in_session, transport_kinds};
+ghost use Rattle.sdp_formats_reader.specs.Choice.{session_attribute, session_kinds};
 
-use crate::kinds::{
-    candidate_line, end_word, fingerprint_line, group_line, ice_lite, ice_options_line,
-    ice_pwd_line, ice_ufrag_line, msid_semantic_line, setup_line,
-};
+use crate::groups::{group, msid_semantic};
+use sdp_formats_attributes::{transport_value, transport_word};
 use sdp_formats_data::SessionAttribute;
-use sdp_formats_grammar::{Lined, Refusal, Stepped, behind, line_of, text_of};
+use sdp_formats_grammar::{Lined, Refusal, Stepped, behind, fitted, line_of, named, text_of};
 use std::alloc::Global;
 
-#[tactic(auto, unfolding(crate::specs::Choice::later_attribute))]
-fn later_attribute(alloc: Global, text: &str) -> Result<SessionAttribute, Refusal>
-    ensures { Gives result (later_attribute.reads text.now) }
+fn session_transport(alloc: Global, name: &str, value: &str) -> Result<SessionAttribute, Refusal>
+    ensures { Gives result (option_map in_session (value_of transport_kinds name.now value.now)) }
 {
-    match fingerprint_line(alloc, text) {
-        Err(Refusal::Unfit) => {}
-        said => return said,
+    let attribute = transport_value(alloc, name, value)?;
+    Ok(attribute.in_session())
+}
+
+/// An attribute by its name and its value.
+fn session_value(alloc: Global, name: &str, value: &str) -> Result<SessionAttribute, Refusal>
+    ensures { Gives result (value_of session_kinds name.now value.now) }
+{
+    match name {
+        "group" => group(alloc, value),
+        "msid-semantic" => msid_semantic(alloc, value),
+        _ => session_transport(alloc, name, value),
     }
-    match setup_line(text) {
-        Err(Refusal::Unfit) => {}
-        said => return said,
+}
+
+/// An attribute that is one word.
+fn session_word(text: &str) -> Result<SessionAttribute, Refusal>
+    ensures { Gives result (alone_of session_kinds text.now) }
+{
+    match text {
+        "ice-lite" => Ok(SessionAttribute::IceLite),
+        _ => Ok(transport_word(text)?.in_session()),
     }
-    match candidate_line(alloc, text) {
-        Err(Refusal::Unfit) => {}
-        said => return said,
+}
+
+fn known_attribute(alloc: Global, text: &str) -> Result<SessionAttribute, Refusal>
+    ensures { Gives result (by_name session_kinds text.now (split_first 58 text.now)) }
+{
+    match named(text) {
+        Some((name, value)) => session_value(alloc, name, value),
+        None => session_word(text),
     }
-    if let Some(attribute) = end_word(text) {
-        return Ok(attribute);
-    }
+}
+
+/// An attribute of no kind that is known.
+fn unused(alloc: Global, text: &str) -> Result<SessionAttribute, Refusal>
+    ensures { Gives result ((made Unused any_text).reads text.now) }
+{
     Ok(SessionAttribute::Unused(text_of(alloc, text)?))
 }
 
 /// What stands behind `a=`.
-#[tactic(auto, unfolding(crate::specs::Choice::session_attribute))]
 fn session_attribute(alloc: Global, text: &str) -> Result<SessionAttribute, Refusal>
     ensures { Gives result (session_attribute.reads text.now) }
 {
-    match group_line(alloc, text) {
-        Err(Refusal::Unfit) => {}
-        said => return said,
+    match fitted(known_attribute(alloc, text))? {
+        Some(attribute) => Ok(attribute),
+        None => unused(alloc, text),
     }
-    match msid_semantic_line(alloc, text) {
-        Err(Refusal::Unfit) => {}
-        said => return said,
-    }
-    if let Some(attribute) = ice_lite(text) {
-        return Ok(attribute);
-    }
-    match ice_ufrag_line(alloc, text) {
-        Err(Refusal::Unfit) => {}
-        said => return said,
-    }
-    match ice_pwd_line(alloc, text) {
-        Err(Refusal::Unfit) => {}
-        said => return said,
-    }
-    match ice_options_line(alloc, text) {
-        Err(Refusal::Unfit) => {}
-        said => return said,
-    }
-    later_attribute(alloc, text)
 }
 
 /// A line `a=` before the first section.

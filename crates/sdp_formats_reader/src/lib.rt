@@ -4,7 +4,6 @@
 mod attribute_choice;
 mod groups;
 mod header;
-mod kinds;
 mod line_read_back;
 mod media;
 mod origin_lines;

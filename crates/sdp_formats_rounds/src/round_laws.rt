@@ -1,6 +1,7 @@
 //! What holds of rounds.
 
-ghost use Rattle.sdp_formats_rounds.specs.Laws.{LockedTypesDistinct, RowsBecome, LockedRowsKeepTypes, UnlockedRowsApart};
+ghost use Rattle.sdp_formats_rounds.specs.Laws.{LockedTypesDistinct, RowsBecome, LockedRowsKeepTypes};
+ghost use Rattle.sdp_formats_rounds.specs.Laws.{UnlockedRowsApart};
 ghost use Rattle.sdp_formats_rounds.specs.Laws.{SuggestedTypesTaken};
 
 /// After an answered round the types of the locked rows are distinct: types, RTX types, RED types.

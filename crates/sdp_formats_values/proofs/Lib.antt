@@ -1,2 +1,3 @@
 pub mod Digits
+pub mod HexNumerals
 pub mod Modes

@@ -1,9 +1,14 @@
+pub mod CandidateWords
+pub mod Candidates
+pub mod Fingerprints
+pub mod FromText
 pub mod Hashed
 pub mod Keys
 pub mod Lists
 pub mod MediaTypes
 pub mod Numbers
 pub mod Params
+pub mod Preference
 pub mod PrintedCandidates
 pub mod PrintedParameters
 pub mod PrintedValues

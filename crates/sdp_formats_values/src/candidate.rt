@@ -55,32 +55,68 @@ pub struct RelatedAddress {
     pub port: u16,
 }
 
-/// A candidate: an address that an end may be reached at (RFC 8839 5.1).
+/// A candidate: an address that an end may be reached at (RFC 8839 5.1). Only the readers of texts make one, so each
+/// has been read from a text.
 #[derive(Debug, PartialEq, Eq, Hash, Drop)]
 pub struct Candidate {
     /// Its foundation: candidates of one base and kind have the same.
-    pub foundation: Text,
+    pub(crate) foundation: Text,
     /// The component of the stream, 1 for RTP.
-    pub component_id: u16,
+    pub(crate) component_id: u16,
     /// What transports its packets.
-    pub proto: Protocol,
+    pub(crate) proto: Protocol,
     /// Its priority.
-    pub prio: u32,
+    pub(crate) prio: u32,
     /// The address: a word, not checked to be one of IP.
-    pub addr: Text,
+    pub(crate) addr: Text,
     /// The port.
-    pub port: u16,
+    pub(crate) port: u16,
     /// How it was found.
-    pub kind: CandidateKind,
+    pub(crate) kind: CandidateKind,
     /// The address that it was derived from, if it is told.
-    pub related: Option<RelatedAddress>,
+    pub(crate) related: Option<RelatedAddress>,
     /// Which end opens the connection, for TCP.
-    pub tcptype: Option<TcpType>,
+    pub(crate) tcptype: Option<TcpType>,
     /// The name of the credentials that it belongs to, if it is told.
-    pub ufrag: Option<Text>,
+    pub(crate) ufrag: Option<Text>,
 }
 
 impl Candidate {
+    /// Its foundation: candidates of one base and kind have the same.
+    pub fn foundation(&self) -> &str
+        ensures { result.now ≡ self.now.foundation }
+    {
+        self.foundation.as_str()
+    }
+
+    /// The component of the stream, 1 for RTP.
+    pub fn component_id(&self) -> u16
+        ensures { result ≡ self.now.component_id }
+    {
+        self.component_id
+    }
+
+    /// Its priority, below 2^32.
+    pub fn prio(&self) -> u32
+        ensures { result ≡ self.now.prio }
+    {
+        self.prio
+    }
+
+    /// How it was found.
+    pub fn kind(&self) -> CandidateKind
+        ensures { result ≡ self.now.kind }
+    {
+        self.kind
+    }
+
+    /// The address that it was derived from, if it is told.
+    pub fn related(&self) -> Option<&RelatedAddress>
+        ensures { option_copied result ≡ self.now.related }
+    {
+        self.related.as_ref()
+    }
+
     /// The address: a word, not checked to be one of IP.
     pub fn addr(&self) -> &str
         ensures { result.now ≡ self.now.addr }

@@ -1,6 +1,7 @@
 //! Fingerprints of certificates (RFC 8122 5).
 
 ghost use Rattle.std.specs.Prelude.{◌≡◌, IfOk};
+ghost use Rattle.sdp_formats_values.specs.Preference.{hash_preference};
 
 use sdp_formats_grammar::{FingerprintFmt, Listed, Text};
 use std::alloc::{AllocError, Global};
@@ -16,6 +17,22 @@ pub struct Fingerprint {
 }
 
 impl Fingerprint {
+    /// The place of its hash function among those that are preferred, 0 first: SHA-256, SHA-1, any other. Names are
+    /// compared without regard to case (RFC 8122 5).
+    #[tactic(auto, unfolding(crate::specs::Preference::hash_preference))]
+    pub fn hash_preference(&self) -> u8
+        ensures { result ≡ hash_preference self.now }
+    {
+        let name = self.hash_func.as_str();
+        if name.eq_ignore_ascii_case("sha-256") {
+            return 0;
+        }
+        if name.eq_ignore_ascii_case("sha-1") {
+            return 1;
+        }
+        2
+    }
+
     /// The same value again.
     ///
     /// # Errors

@@ -3,8 +3,11 @@
 
 mod bandwidth;
 mod candidate;
+mod candidate_reader;
+mod candidate_words;
 mod copies;
 mod fingerprint;
+mod fingerprint_reader;
 mod key;
 mod line_hasher;
 mod lists;
@@ -19,7 +22,9 @@ mod streams;
 
 pub use bandwidth::Bandwidth;
 pub use candidate::{Candidate, CandidateKind, IceCreds, Protocol, RelatedAddress, TcpType};
+pub use candidate_reader::candidate_of;
 pub use fingerprint::Fingerprint;
+pub use fingerprint_reader::FingerprintError;
 pub use h26x_payload_profiles::{H265ProfileTierLevel, H266ProfileTierLevel};
 pub use key::Key;
 pub use lists::{Mids, Restrictions, RidRestrictions, Sources, Words, write_both, write_value};
@@ -29,7 +34,6 @@ pub use pairs::Pair;
 pub use param::{FormatParam, has_name};
 pub use printed::has_mode;
 pub use setup::Setup;
-pub use several::parse_pairs;
 pub use streams::{
     Msid, RestrictionId, RidDirection, Simulcast, SimulcastGroups, SimulcastLayer, SsrcInfo,
 };

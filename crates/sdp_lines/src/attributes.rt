@@ -1,12 +1,12 @@
 //! The attributes of sessions and sections, and directions that are changed.
 
-use command_lines::Reply;
+use command_lines::ReplyText;
 use sdp_formats::{Direction, MediaAttribute, MediaLine, Sdp, Session, SessionAttribute};
 use std::alloc::{AllocError, Global};
 
 /// `attributes NAME`: each attribute of the session and of the sections as it is printed, with `unused` in front where
 /// it is of no known kind, and a section's line `m=` in front of its attributes.
-pub(crate) fn put_attributes(alloc: Global, sdp: &Sdp, reply: &mut Reply) {
+pub(crate) fn put_attributes(alloc: Global, sdp: &Sdp, reply: &mut ReplyText) {
     put_session(alloc, &sdp.session, reply);
     for section in sdp.media_lines.as_slice() {
         put_head(section.to_string(alloc), reply);
@@ -14,7 +14,7 @@ pub(crate) fn put_attributes(alloc: Global, sdp: &Sdp, reply: &mut Reply) {
     }
 }
 
-fn put_session(alloc: Global, session: &Session, reply: &mut Reply) {
+fn put_session(alloc: Global, session: &Session, reply: &mut ReplyText) {
     for attribute in session.attrs.as_slice() {
         let is_unused = matches!(attribute, SessionAttribute::Unused(_));
         put_line(indent(is_unused), attribute.to_string(alloc), reply);
@@ -22,14 +22,14 @@ fn put_session(alloc: Global, session: &Session, reply: &mut Reply) {
 }
 
 /// The first line of a section.
-fn put_head(section: Result<String, AllocError>, reply: &mut Reply) {
+fn put_head(section: Result<String, AllocError>, reply: &mut ReplyText) {
     match section {
         Ok(section) => reply.say_some("\n  ", &section.as_str().lines().next()),
         Err(_) => reply.fail(),
     }
 }
 
-fn put_section(alloc: Global, section: &MediaLine, reply: &mut Reply) {
+fn put_section(alloc: Global, section: &MediaLine, reply: &mut ReplyText) {
     for attribute in section.attrs.as_slice() {
         let is_unused = matches!(attribute, MediaAttribute::Unused(_));
         put_line(indent(is_unused), attribute.to_string(alloc), reply);
@@ -42,7 +42,7 @@ fn indent(is_unused: bool) -> &'static str {
 }
 
 /// Writes an attribute without its line end behind a text, or a dash for one of nothing.
-fn put_line(before: &str, line: Result<String, AllocError>, reply: &mut Reply) {
+fn put_line(before: &str, line: Result<String, AllocError>, reply: &mut ReplyText) {
     reply.put(before);
     match line {
         Ok(line) => reply.put_or_dash(without_end(line.as_str())),
@@ -59,7 +59,7 @@ fn without_end(line: &str) -> &str {
 
 /// `directed NAME DIRECTION`: the directions of the sections, and the lines that give them, once each section that has
 /// such a line was given this direction.
-pub(crate) fn put_directed(alloc: Global, sdp: Sdp, direction: Direction, reply: &mut Reply) {
+pub(crate) fn put_directed(alloc: Global, sdp: Sdp, direction: Direction, reply: &mut ReplyText) {
     for section in sdp.media_lines.into_vec().iter_mut() {
         turn(alloc, section, direction);
         put_direction(alloc, section, reply);
@@ -73,7 +73,7 @@ fn turn(alloc: Global, section: &mut MediaLine, direction: Direction) {
     }
 }
 
-fn put_direction(alloc: Global, section: &MediaLine, reply: &mut Reply) {
+fn put_direction(alloc: Global, section: &MediaLine, reply: &mut ReplyText) {
     reply.say("\n  section: ", &section.direction());
     for attribute in section.attrs.as_slice() {
         if attribute.is_direction() {

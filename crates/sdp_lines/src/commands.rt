@@ -4,12 +4,12 @@ use crate::files::put_file;
 use crate::rows::{Rows, put_rows};
 use crate::single_rows::{put_equality, put_feedback, put_score};
 use crate::values::{put_candidate, put_fingerprint, put_format, put_parameters, put_setup};
-use command_lines::{Reply, parted};
+use command_lines::{ReplyText, parted};
 use std::alloc::{AllocError, Global};
 
 /// What a line gives, by the rows that those before it left.
 pub(crate) fn answer(rt: &HostRuntime, rows: &mut Rows, line: &str) -> Result<String, AllocError> {
-    let mut reply = Reply::new(rt.alloc());
+    let mut reply = ReplyText::new(rt.alloc());
     let (command, rest) = parted(line);
     match command {
         "" | "#" => reply.put(line),
@@ -37,7 +37,13 @@ pub(crate) fn answer(rt: &HostRuntime, rows: &mut Rows, line: &str) -> Result<St
 }
 
 /// Writes what a command on rows gives, or the word `fault` where it isn't understood.
-fn put_of_rows(alloc: Global, rows: &mut Rows, command: &str, words: &[&str], reply: &mut Reply) {
+fn put_of_rows(
+    alloc: Global,
+    rows: &mut Rows,
+    command: &str,
+    words: &[&str],
+    reply: &mut ReplyText,
+) {
     let understood = match command {
         "score" => put_score(words, reply),
         "feedback" => put_feedback(words, reply),

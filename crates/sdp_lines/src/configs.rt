@@ -3,7 +3,7 @@
 
 use crate::rows::Change;
 use crate::words::{maybe_type, number_of, type_of};
-use command_lines::Reply;
+use command_lines::ReplyText;
 use sdp_formats::{Codec, CodecConfig, Joined, Pt};
 use std::alloc::Global;
 
@@ -77,7 +77,7 @@ pub(crate) fn put_distances(
     alloc: Global,
     config: &mut CodecConfig,
     words: &[&str],
-    reply: &mut Reply,
+    reply: &mut ReplyText,
 ) -> Option<()> {
     let mut given = Vec::new(alloc);
     for word in words {

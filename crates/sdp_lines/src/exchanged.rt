@@ -1,12 +1,12 @@
 //! Commands on offers and answers.
 
 use crate::texts::put_refusal;
-use command_lines::Reply;
+use command_lines::ReplyText;
 use sdp_formats::{Parse, Sdp, SdpAnswer, SdpError, SdpOffer};
 use std::alloc::Global;
 
 /// `offer NAME`: whether the text is an offer, and the offer is printed as its session text is.
-pub(crate) fn put_offer(alloc: Global, text: &str, reply: &mut Reply) {
+pub(crate) fn put_offer(alloc: Global, text: &str, reply: &mut ReplyText) {
     match SdpOffer::from_sdp_string(alloc, text) {
         Ok(offer) => {
             reply.say("an offer of ", &offer.media_lines.as_slice().len());
@@ -20,7 +20,7 @@ pub(crate) fn put_offer(alloc: Global, text: &str, reply: &mut Reply) {
 }
 
 /// `answer NAME`: whether the text is an answer, and the answer is printed as its session text is.
-pub(crate) fn put_answer(alloc: Global, text: &str, reply: &mut Reply) {
+pub(crate) fn put_answer(alloc: Global, text: &str, reply: &mut ReplyText) {
     match SdpAnswer::from_sdp_string(alloc, text) {
         Ok(answer) => {
             reply.say("an answer of ", &answer.media_lines.as_slice().len());
@@ -33,7 +33,7 @@ pub(crate) fn put_answer(alloc: Global, text: &str, reply: &mut Reply) {
     }
 }
 
-fn put_sameness(alloc: Global, text: &str, printed: &str, reply: &mut Reply) {
+fn put_sameness(alloc: Global, text: &str, printed: &str, reply: &mut ReplyText) {
     match printed_text(alloc, text) {
         Ok(same) => reply.say(
             " sections, printed as its text ",

@@ -6,7 +6,7 @@ use crate::listed::put_listed;
 use crate::printed::put_printed;
 use crate::said::put_said;
 use crate::texts::{put_prefixes, put_refusal, put_session, put_text};
-use command_lines::Reply;
+use command_lines::ReplyText;
 use sdp_formats::{Direction, Parse, Sdp};
 use std::alloc::Global;
 use std::fs;
@@ -16,7 +16,7 @@ pub(crate) fn put_file(
     rt: &HostRuntime,
     command: &str,
     (name, word): (&str, &str),
-    reply: &mut Reply,
+    reply: &mut ReplyText,
 ) {
     match fs::read_to_string(rt, name) {
         Ok(text) => {
@@ -29,7 +29,7 @@ pub(crate) fn put_file(
 }
 
 /// Writes what a command on a session text gives.
-fn put_command(alloc: Global, command: &str, word: &str, text: &str, reply: &mut Reply) {
+fn put_command(alloc: Global, command: &str, word: &str, text: &str, reply: &mut ReplyText) {
     match command {
         "text" => put_text(alloc, text, reply),
         "prefixes" => put_prefixes(alloc, text, reply),
@@ -45,7 +45,7 @@ fn put_command(alloc: Global, command: &str, word: &str, text: &str, reply: &mut
 }
 
 /// How many sections a text has, and what a command on what it says gives.
-fn put_sections(alloc: Global, command: &str, word: &str, sdp: Sdp, reply: &mut Reply) {
+fn put_sections(alloc: Global, command: &str, word: &str, sdp: Sdp, reply: &mut ReplyText) {
     reply.say("", &sdp.media_lines.as_slice().len());
     reply.put(" sections");
     match command {

@@ -1,18 +1,18 @@
 //! The rows that sections list.
 
-use command_lines::Reply;
+use command_lines::ReplyText;
 use sdp_formats::{MediaLine, PayloadParams, RtpParams, Sdp};
 use std::alloc::Global;
 
 /// `listed NAME`: of each section its rows, each with its type, codec, clock rate, channels, format, feedback, and the
 /// types of its retransmissions and of its redundancy.
-pub(crate) fn put_listed(alloc: Global, sdp: &Sdp, reply: &mut Reply) {
+pub(crate) fn put_listed(alloc: Global, sdp: &Sdp, reply: &mut ReplyText) {
     for section in sdp.media_lines.as_slice() {
         put_section(alloc, section, reply);
     }
 }
 
-fn put_section(alloc: Global, section: &MediaLine, reply: &mut Reply) {
+fn put_section(alloc: Global, section: &MediaLine, reply: &mut ReplyText) {
     match section.rtp_params(alloc) {
         Ok(rows) => {
             reply.say("\n  section: ", &rows.len());
@@ -25,7 +25,7 @@ fn put_section(alloc: Global, section: &MediaLine, reply: &mut Reply) {
     }
 }
 
-fn put_row(alloc: Global, row: &PayloadParams, reply: &mut Reply) {
+fn put_row(alloc: Global, row: &PayloadParams, reply: &mut ReplyText) {
     let spec = row.spec();
     reply.say("\n    ", &row.pt());
     reply.say(" ", &spec.codec);
@@ -37,7 +37,7 @@ fn put_row(alloc: Global, row: &PayloadParams, reply: &mut Reply) {
     reply.say_or_dash(" ", &row.red());
 }
 
-fn put_feedback(row: &PayloadParams, reply: &mut Reply) {
+fn put_feedback(row: &PayloadParams, reply: &mut ReplyText) {
     reply.put_flag(" ", "cc", row.fb_transport_cc());
     reply.put_flag(" ", "nack", row.fb_nack());
     reply.put_flag(" ", "pli", row.fb_pli());

@@ -1,13 +1,13 @@
 //! Session texts as they are printed, read again and copied.
 
 use crate::texts::put_refusal;
-use command_lines::Reply;
+use command_lines::ReplyText;
 use sdp_formats::{Parse, Sdp, SdpError, sdp_parser};
 use std::alloc::Global;
 
 /// `printed NAME`: how many lines are printed as they stood, whether the printed text is read whole and printed as it
 /// stands, and whether another reading of the text and a copy are the same value.
-pub(crate) fn put_printed(alloc: Global, text: &str, reply: &mut Reply) {
+pub(crate) fn put_printed(alloc: Global, text: &str, reply: &mut ReplyText) {
     match sdp_parser(alloc, text) {
         Ok((sdp, _)) => {
             put_kept(alloc, text, &sdp, reply);
@@ -18,7 +18,7 @@ pub(crate) fn put_printed(alloc: Global, text: &str, reply: &mut Reply) {
 }
 
 /// How many lines are printed as they stood, and whether the printed text is read whole, and printed as it stands.
-fn put_kept(alloc: Global, text: &str, sdp: &Sdp, reply: &mut Reply) {
+fn put_kept(alloc: Global, text: &str, sdp: &Sdp, reply: &mut ReplyText) {
     match sdp.to_sdp_string(alloc) {
         Ok(printed) => {
             let printed = printed.as_str();
@@ -53,7 +53,7 @@ fn has_line(text: &str, line: &str) -> bool {
 }
 
 /// Whether a printed text is read whole, and printed as it stands. One of a section that isn't printable may be none.
-fn put_likeness(alloc: Global, printed: &str, reply: &mut Reply) {
+fn put_likeness(alloc: Global, printed: &str, reply: &mut ReplyText) {
     match is_read_alike(alloc, printed) {
         Ok(true) => reply.put("alike"),
         Err(SdpError::Memory) => reply.fail(),
@@ -67,7 +67,7 @@ fn is_read_alike(alloc: Global, printed: &str) -> Result<bool, SdpError> {
 }
 
 /// Whether the text is read by itself as the same value, of which a copy is the same.
-fn put_again(alloc: Global, text: &str, sdp: &Sdp, reply: &mut Reply) {
+fn put_again(alloc: Global, text: &str, sdp: &Sdp, reply: &mut ReplyText) {
     match Sdp::parse(alloc, text) {
         Ok(again) => reply.say(", the same ", &(again == *sdp)),
         Err(error) => put_refusal(error, reply),

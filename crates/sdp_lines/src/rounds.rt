@@ -1,11 +1,11 @@
 //! What rounds give, as text.
 
-use command_lines::Reply;
+use command_lines::ReplyText;
 use sdp_formats::{CodecConfig, Direction, PayloadParams, RoundError};
 use std::alloc::Global;
 
 /// Writes a row: its types, whether it is locked and uses transport-wide feedback, its codec, channels and format.
-fn put_row(alloc: Global, row: &PayloadParams, reply: &mut Reply) {
+fn put_row(alloc: Global, row: &PayloadParams, reply: &mut ReplyText) {
     let spec = row.spec();
     reply.say(" | ", &row.pt());
     reply.say_or_dash(" ", &row.resend());
@@ -18,19 +18,19 @@ fn put_row(alloc: Global, row: &PayloadParams, reply: &mut Reply) {
 }
 
 /// Writes the rows, each behind a bar.
-fn put_rows(alloc: Global, rows: &[PayloadParams], reply: &mut Reply) {
+fn put_rows(alloc: Global, rows: &[PayloadParams], reply: &mut ReplyText) {
     for row in rows {
         put_row(alloc, row, reply);
     }
 }
 
 /// `rows`: how many own rows there are, and which.
-pub(crate) fn put_own_rows(alloc: Global, rows: &[PayloadParams], reply: &mut Reply) {
+pub(crate) fn put_own_rows(alloc: Global, rows: &[PayloadParams], reply: &mut ReplyText) {
     reply.say("", &rows.len());
     put_rows(alloc, rows, reply);
 }
 
-fn put_refusal(refusal: RoundError, reply: &mut Reply) {
+fn put_refusal(refusal: RoundError, reply: &mut ReplyText) {
     match refusal {
         RoundError::TypeTaken(pt) => reply.say("TypeTaken ", &pt),
         RoundError::ResendTaken(pt) => reply.say("ResendTaken ", &pt),
@@ -45,7 +45,7 @@ pub(crate) fn put_round(
     config: &mut CodecConfig,
     remote: &[PayloadParams],
     dir: Direction,
-    reply: &mut Reply,
+    reply: &mut ReplyText,
 ) {
     match config.round(remote, dir) {
         Ok(()) => reply.put("ok"),

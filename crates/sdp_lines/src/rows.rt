@@ -3,7 +3,7 @@
 use crate::configs::{add_video, enable, put_distances};
 use crate::rounds::{put_own_rows, put_round};
 use crate::words::{row_of, spec_of, type_of};
-use command_lines::Reply;
+use command_lines::ReplyText;
 use sdp_formats::{CodecConfig, Direction};
 use std::alloc::{AllocError, Global};
 
@@ -33,7 +33,7 @@ pub(crate) fn put_rows(
     rows: &mut Rows,
     command: &str,
     words: &[&str],
-    reply: &mut Reply,
+    reply: &mut ReplyText,
 ) -> Option<()> {
     match command {
         "distances" => put_distances(alloc, &mut rows.own, words, reply),
@@ -48,7 +48,7 @@ pub(crate) fn put_rows(
 }
 
 /// Writes that a change was made, where there was memory for it.
-fn put_change(change: Result<(), AllocError>, reply: &mut Reply) {
+fn put_change(change: Result<(), AllocError>, reply: &mut ReplyText) {
     match change {
         Ok(()) => reply.put("ok"),
         Err(_) => reply.fail(),
@@ -105,7 +105,7 @@ fn add(config: &mut CodecConfig, words: &[&str]) -> Change {
 }
 
 /// `find TYPE`: the codec of the first own row of a type.
-fn put_found(config: &CodecConfig, words: &[&str], reply: &mut Reply) -> Option<()> {
+fn put_found(config: &CodecConfig, words: &[&str], reply: &mut ReplyText) -> Option<()> {
     let pt = type_of(words.first()?)?;
     match config.find(|row| row.pt() == pt) {
         Some(row) => reply.say("", &row.spec().codec),

@@ -1,12 +1,12 @@
 //! What texts say, by their accessors.
 
-use command_lines::Reply;
+use command_lines::ReplyText;
 use sdp_formats::{Candidate, MediaAttribute, MediaLine, Sdp, Session, SimulcastLayer, Text};
 use std::alloc::{AllocError, Global};
 
-/// `says NAME`: what each accessor answers of the session, of each section and of the whole text, a line for each that
+/// `says NAME`: what each accessor returns of the session, of each section and of the whole text, a line for each that
 /// answers something.
-pub(crate) fn put_said(alloc: Global, sdp: &Sdp, reply: &mut Reply) {
+pub(crate) fn put_said(alloc: Global, sdp: &Sdp, reply: &mut ReplyText) {
     put_session(alloc, &sdp.session, reply);
     for section in sdp.media_lines.as_slice() {
         put_section(alloc, section, reply);
@@ -20,14 +20,14 @@ pub(crate) fn put_said(alloc: Global, sdp: &Sdp, reply: &mut Reply) {
 }
 
 /// Writes the name and the password of connectivity checks.
-fn put_creds(before: &str, creds: Option<(&Text, &Text)>, reply: &mut Reply) {
+fn put_creds(before: &str, creds: Option<(&Text, &Text)>, reply: &mut ReplyText) {
     if let Some((ufrag, pass)) = creds {
         reply.say(before, ufrag);
         reply.say(" ", pass);
     }
 }
 
-fn put_session(alloc: Global, session: &Session, reply: &mut Reply) {
+fn put_session(alloc: Global, session: &Session, reply: &mut ReplyText) {
     put_creds("\n  session: ice ", session.ice_creds(), reply);
     reply.say_some("\n  session: fingerprint ", &session.fingerprint());
     reply.say_some("\n  session: setup ", &session.setup());
@@ -41,7 +41,7 @@ fn put_session(alloc: Global, session: &Session, reply: &mut Reply) {
 }
 
 /// Writes how many candidates there are, where there are some.
-fn put_count(before: &str, candidates: Result<Vec<&Candidate>, AllocError>, reply: &mut Reply) {
+fn put_count(before: &str, candidates: Result<Vec<&Candidate>, AllocError>, reply: &mut ReplyText) {
     match candidates {
         Ok(candidates) => {
             if !candidates.is_empty() {
@@ -54,7 +54,7 @@ fn put_count(before: &str, candidates: Result<Vec<&Candidate>, AllocError>, repl
 }
 
 /// What a section says of its name, its direction and its streams.
-fn put_section(alloc: Global, section: &MediaLine, reply: &mut Reply) {
+fn put_section(alloc: Global, section: &MediaLine, reply: &mut ReplyText) {
     reply.put("\n  section");
     reply.say_some(" ", &section.mid());
     reply.say(": direction ", &section.direction());
@@ -66,14 +66,14 @@ fn put_section(alloc: Global, section: &MediaLine, reply: &mut Reply) {
 }
 
 /// The layers of one way of a simulcast, those that aren't active at first behind a tilde.
-fn put_layers(alloc: Global, before: &str, layers: &[SimulcastLayer], reply: &mut Reply) {
+fn put_layers(alloc: Global, before: &str, layers: &[SimulcastLayer], reply: &mut ReplyText) {
     for layer in layers {
         reply.put_printed_or_dash(before, layer.restriction_id.to_sdp(alloc));
     }
 }
 
 /// What a section says of its transport.
-fn put_transport(section: &MediaLine, reply: &mut Reply) {
+fn put_transport(section: &MediaLine, reply: &mut ReplyText) {
     put_creds("\n    ice ", section.ice_creds(), reply);
     reply.say_some("\n    fingerprint ", &section.fingerprint());
     reply.say_some("\n    setup ", &section.setup());
@@ -85,7 +85,7 @@ fn put_transport(section: &MediaLine, reply: &mut Reply) {
 }
 
 /// The header extensions of a section, and the names of its restricted streams, cut as packets have them, and whole.
-fn put_lists(alloc: Global, section: &MediaLine, reply: &mut Reply) {
+fn put_lists(alloc: Global, section: &MediaLine, reply: &mut ReplyText) {
     put_extmaps(alloc, section, reply);
     match section.rids(alloc) {
         Ok(rids) => {
@@ -102,7 +102,7 @@ fn put_lists(alloc: Global, section: &MediaLine, reply: &mut Reply) {
     }
 }
 
-fn put_extmaps(alloc: Global, section: &MediaLine, reply: &mut Reply) {
+fn put_extmaps(alloc: Global, section: &MediaLine, reply: &mut ReplyText) {
     match section.extmaps(alloc) {
         Ok(extmaps) => {
             for (id, ext) in extmaps.as_slice() {
@@ -114,7 +114,7 @@ fn put_extmaps(alloc: Global, section: &MediaLine, reply: &mut Reply) {
     }
 }
 
-fn put_whole(sdp: &Sdp, reply: &mut Reply) {
+fn put_whole(sdp: &Sdp, reply: &mut ReplyText) {
     put_creds("\n  whole: ice ", sdp.ice_creds(), reply);
     reply.say_some("\n  whole: fingerprint ", &sdp.fingerprint());
     reply.say_some("\n  whole: setup ", &sdp.setup());
@@ -122,7 +122,7 @@ fn put_whole(sdp: &Sdp, reply: &mut Reply) {
 }
 
 /// The bundled sections of a text.
-fn put_bundle(sdp: &Sdp, reply: &mut Reply) {
+fn put_bundle(sdp: &Sdp, reply: &mut ReplyText) {
     if let Some(mids) = sdp.bundle_mids() {
         reply.put("\n  whole: bundle");
         for mid in mids {
@@ -131,7 +131,7 @@ fn put_bundle(sdp: &Sdp, reply: &mut Reply) {
     }
 }
 
-fn put_candidates(alloc: Global, sdp: &Sdp, reply: &mut Reply) {
+fn put_candidates(alloc: Global, sdp: &Sdp, reply: &mut ReplyText) {
     match sdp.ice_candidates(alloc) {
         Ok(candidates) => {
             for candidate in candidates.as_slice() {

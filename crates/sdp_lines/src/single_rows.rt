@@ -1,7 +1,7 @@
 //! Commands on rows that come alone: how well they match, their feedback, and what they equal.
 
 use crate::words::{row_of, spec_of};
-use command_lines::Reply;
+use command_lines::ReplyText;
 use sdp_formats::{PayloadParams, Pt};
 
 /// A new row of the codec at the front.
@@ -11,7 +11,7 @@ fn new_row(words: &[&str]) -> Option<PayloadParams> {
 }
 
 /// `score SPEC SPEC`: how well two rows match.
-pub(crate) fn put_score(words: &[&str], reply: &mut Reply) -> Option<()> {
+pub(crate) fn put_score(words: &[&str], reply: &mut ReplyText) -> Option<()> {
     let one = new_row(words)?;
     let other = new_row(words.get(4..)?)?;
     match one.match_score(&other) {
@@ -22,7 +22,7 @@ pub(crate) fn put_score(words: &[&str], reply: &mut Reply) -> Option<()> {
 }
 
 /// `feedback FLAG SPEC`: the feedback of a new row, once one flag is off, or none at a dash.
-pub(crate) fn put_feedback(words: &[&str], reply: &mut Reply) -> Option<()> {
+pub(crate) fn put_feedback(words: &[&str], reply: &mut ReplyText) -> Option<()> {
     let [flag, spec @ ..] = words else {
         return None;
     };
@@ -40,7 +40,7 @@ pub(crate) fn put_feedback(words: &[&str], reply: &mut Reply) -> Option<()> {
     Some(())
 }
 
-fn put_flags(row: &PayloadParams, reply: &mut Reply) {
+fn put_flags(row: &PayloadParams, reply: &mut ReplyText) {
     reply.put_flag("", "cc", row.fb_transport_cc());
     reply.put_flag(" ", "nack", row.fb_nack());
     reply.put_flag(" ", "pli", row.fb_pli());
@@ -49,7 +49,7 @@ fn put_flags(row: &PayloadParams, reply: &mut Reply) {
 }
 
 /// `equal LOCK ROW LOCK ROW`: whether two rows are equal, where LOCK is `locked` or `open`.
-pub(crate) fn put_equality(words: &[&str], reply: &mut Reply) -> Option<()> {
+pub(crate) fn put_equality(words: &[&str], reply: &mut ReplyText) -> Option<()> {
     let one = locked_or_open(words)?;
     let other = locked_or_open(words.get(9..)?)?;
     reply.put(if one == other { "equal" } else { "unequal" });

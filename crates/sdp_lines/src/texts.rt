@@ -1,6 +1,6 @@
 //! Commands on whole session texts.
 
-use command_lines::Reply;
+use command_lines::ReplyText;
 use sdp_formats::{
     Bandwidth, MediaAttribute, MediaLine, Sdp, SdpError, Session, SessionAttribute, SsrcInfo,
     sdp_parser, session_parser,
@@ -9,7 +9,7 @@ use std::alloc::Global;
 
 /// `text NAME`: what a session text has: session attributes, attributes and sources of each section, lines of a form
 /// that isn't known, candidates, bundled sections, what its data channels have, and bytes that are left.
-pub(crate) fn put_text(alloc: Global, text: &str, reply: &mut Reply) {
+pub(crate) fn put_text(alloc: Global, text: &str, reply: &mut ReplyText) {
     match sdp_parser(alloc, text) {
         Ok((sdp, rest)) => {
             put_counts(&sdp.session, rest.len(), reply);
@@ -20,14 +20,14 @@ pub(crate) fn put_text(alloc: Global, text: &str, reply: &mut Reply) {
 }
 
 /// Writes why a text isn't read.
-pub(crate) fn put_refusal(error: SdpError, reply: &mut Reply) {
+pub(crate) fn put_refusal(error: SdpError, reply: &mut ReplyText) {
     match error {
         SdpError::Memory => reply.fail(),
         _ => reply.put("no session text"),
     }
 }
 
-fn put_counts(session: &Session, left: usize, reply: &mut Reply) {
+fn put_counts(session: &Session, left: usize, reply: &mut ReplyText) {
     let attributes = session.attrs.as_slice();
     let mut unused = 0usize;
     for attribute in attributes {
@@ -43,7 +43,7 @@ fn put_counts(session: &Session, left: usize, reply: &mut Reply) {
 }
 
 /// What stands in the text besides, section by section and as a whole.
-fn put_parts(alloc: Global, sdp: &Sdp, reply: &mut Reply) {
+fn put_parts(alloc: Global, sdp: &Sdp, reply: &mut ReplyText) {
     for section in sdp.media_lines.as_slice() {
         put_section(section, reply);
         put_sources(alloc, section, reply);
@@ -51,7 +51,7 @@ fn put_parts(alloc: Global, sdp: &Sdp, reply: &mut Reply) {
     put_whole(alloc, sdp, reply);
 }
 
-fn put_section(section: &MediaLine, reply: &mut Reply) {
+fn put_section(section: &MediaLine, reply: &mut ReplyText) {
     let attributes = section.attrs.as_slice();
     let mut unused = 0usize;
     for attribute in attributes {
@@ -65,7 +65,7 @@ fn put_section(section: &MediaLine, reply: &mut Reply) {
     reply.put(" unused");
 }
 
-fn put_sources(alloc: Global, section: &MediaLine, reply: &mut Reply) {
+fn put_sources(alloc: Global, section: &MediaLine, reply: &mut ReplyText) {
     match section.ssrc_info(alloc) {
         Ok(sources) => {
             for source in sources.as_slice() {
@@ -76,7 +76,7 @@ fn put_sources(alloc: Global, section: &MediaLine, reply: &mut Reply) {
     }
 }
 
-fn put_source(source: &SsrcInfo, reply: &mut Reply) {
+fn put_source(source: &SsrcInfo, reply: &mut ReplyText) {
     reply.say("\n    source ", &source.ssrc);
     reply.say_some(" repairs ", &source.repairs);
     reply.say_some(" of ", &source.cname);
@@ -85,7 +85,7 @@ fn put_source(source: &SsrcInfo, reply: &mut Reply) {
 }
 
 /// What the text says as a whole.
-fn put_whole(alloc: Global, sdp: &Sdp, reply: &mut Reply) {
+fn put_whole(alloc: Global, sdp: &Sdp, reply: &mut ReplyText) {
     match sdp.ice_candidates(alloc) {
         Ok(candidates) => reply.say("\n  whole: ", &candidates.len()),
         Err(_) => reply.fail(),
@@ -108,7 +108,7 @@ fn put_whole(alloc: Global, sdp: &Sdp, reply: &mut Reply) {
 }
 
 /// `prefixes NAME`: how many prefixes of a text, by bytes, are session texts, and how many not.
-pub(crate) fn put_prefixes(alloc: Global, text: &str, reply: &mut Reply) {
+pub(crate) fn put_prefixes(alloc: Global, text: &str, reply: &mut ReplyText) {
     let (mut read, mut unread) = (0usize, 0usize);
     for end in 0..text.len().saturating_add(1) {
         let Some(prefix) = text.get(..end) else {
@@ -126,14 +126,14 @@ pub(crate) fn put_prefixes(alloc: Global, text: &str, reply: &mut Reply) {
 }
 
 /// `session NAME`: what stands before the first section: number, bandwidth, attributes, and bytes behind it.
-pub(crate) fn put_session(alloc: Global, text: &str, reply: &mut Reply) {
+pub(crate) fn put_session(alloc: Global, text: &str, reply: &mut ReplyText) {
     match session_parser(alloc, text) {
         Ok((session, rest)) => put_header(&session, rest.len(), reply),
         Err(error) => put_refusal(error, reply),
     }
 }
 
-fn put_header(session: &Session, left: usize, reply: &mut Reply) {
+fn put_header(session: &Session, left: usize, reply: &mut ReplyText) {
     reply.say("session ", &session.id);
     if let Some(Bandwidth { typ, val }) = &session.bw {
         reply.say(", bandwidth ", typ);

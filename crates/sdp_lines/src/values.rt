@@ -1,16 +1,15 @@
 //! Commands on values that come alone: candidates, fingerprints, setups and parameters of formats.
 
-use command_lines::Reply;
-use sdp_formats::from_text::{FingerprintError, fingerprint_from_str};
+use command_lines::ReplyText;
 use sdp_formats::{
-    Candidate, Fingerprint, FormatParams, Joined, Refusal, candidate_of, fingerprint_of,
-    hash_preference, setup_of,
+    Candidate, Fingerprint, FingerprintError, FormatParams, Joined, Refusal, candidate_of,
+    fingerprint_of, setup_of,
 };
 use std::alloc::Global;
 use std::hash::{DefaultHasher, Hash, Hasher};
 
-/// `candidate TEXT`: the candidate that stands behind `candidate:`, printed, and what its accessors answer.
-pub(crate) fn put_candidate(alloc: Global, text: &str, reply: &mut Reply) {
+/// `candidate TEXT`: the candidate that stands behind `candidate:`, printed, and what its accessors return.
+pub(crate) fn put_candidate(alloc: Global, text: &str, reply: &mut ReplyText) {
     match candidate_of(alloc, text) {
         Ok(candidate) => put_parts(alloc, &candidate, reply),
         Err(Refusal::Unfit) => reply.put("no candidate"),
@@ -18,7 +17,7 @@ pub(crate) fn put_candidate(alloc: Global, text: &str, reply: &mut Reply) {
     }
 }
 
-fn put_parts(alloc: Global, candidate: &Candidate, reply: &mut Reply) {
+fn put_parts(alloc: Global, candidate: &Candidate, reply: &mut ReplyText) {
     reply.put_printed("", candidate.to_sdp_string(alloc));
     reply.say(": at ", &candidate.addr());
     reply.say(", port ", &candidate.port());
@@ -29,11 +28,11 @@ fn put_parts(alloc: Global, candidate: &Candidate, reply: &mut Reply) {
 
 /// `fingerprint TEXT`: the fingerprint of a text of its own, printed, the place of its hash function, and whether it is
 /// the one that `a=fingerprint` would give.
-pub(crate) fn put_fingerprint(alloc: Global, text: &str, reply: &mut Reply) {
-    match fingerprint_from_str(alloc, text) {
+pub(crate) fn put_fingerprint(alloc: Global, text: &str, reply: &mut ReplyText) {
+    match Fingerprint::from_str(alloc, text) {
         Ok(print) => {
             reply.say("", &print);
-            reply.say(", place ", &hash_preference(&print));
+            reply.say(", place ", &print.hash_preference());
             put_of_line(alloc, text, &print, reply);
         }
         Err(FingerprintError::Malformed) => reply.put("no fingerprint"),
@@ -42,7 +41,7 @@ pub(crate) fn put_fingerprint(alloc: Global, text: &str, reply: &mut Reply) {
 }
 
 /// Whether a fingerprint is the one of a line of this text.
-fn put_of_line(alloc: Global, text: &str, print: &Fingerprint, reply: &mut Reply) {
+fn put_of_line(alloc: Global, text: &str, print: &Fingerprint, reply: &mut ReplyText) {
     match fingerprint_of(alloc, text) {
         Ok(other) => {
             reply.say(", the same as of a line ", &(*print == other));
@@ -60,7 +59,7 @@ fn hash_of(print: &Fingerprint) -> u64 {
 }
 
 /// `setup WORD WORD`: an end's choice, the same as seen from the other end, and what it is towards the other's choice.
-pub(crate) fn put_setup((own, other): (&str, &str), reply: &mut Reply) {
+pub(crate) fn put_setup((own, other): (&str, &str), reply: &mut ReplyText) {
     let (Ok(own), Ok(other)) = (setup_of(own), setup_of(other)) else {
         return reply.put("no setup");
     };
@@ -71,12 +70,12 @@ pub(crate) fn put_setup((own, other): (&str, &str), reply: &mut Reply) {
 }
 
 /// `format TEXT`: the parameters that a text gives, blanks and all, printed again.
-pub(crate) fn put_format(alloc: Global, text: &str, reply: &mut Reply) {
+pub(crate) fn put_format(alloc: Global, text: &str, reply: &mut ReplyText) {
     reply.put_printed("", FormatParams::parse_line(text).to_string(alloc));
 }
 
 /// `parameters TEXT`: the parameters of the format that a text gives, one by one, or a dash where there are none.
-pub(crate) fn put_parameters(alloc: Global, text: &str, reply: &mut Reply) {
+pub(crate) fn put_parameters(alloc: Global, text: &str, reply: &mut ReplyText) {
     match FormatParams::parse_line(text).to_format_param(alloc) {
         Ok(params) if params.is_empty() => reply.put("-"),
         Ok(params) => reply.say("", &Joined(params.as_slice(), " ")),

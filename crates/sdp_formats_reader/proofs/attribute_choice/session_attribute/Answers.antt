@@ -1,8 +1,18 @@
-use Rattle.std.proofs.Common.{arith}
-use Rattle.std.proofs.lemmas.Grind.{common_steps}
-use Rattle.sdp_formats_reader.specs.Choice.{session_attribute}
+use Rattle.std.proofs.Common.{Ok, ap, refl, subst, sym, ◌∙◌}
+use Rattle.sdp_formats_grammar.specs.Form.{any_text, made}
+use Rattle.sdp_formats_grammar.specs.Refusals.{Gives}
+use Rattle.sdp_formats_attributes.proofs.Choosing.{chosen, passed-on}
+use Rattle.sdp_formats_data.specs.declared.session.SessionAttribute.TheVariants.{Unused}
+use Rattle.sdp_formats_reader.specs.Choice.{session_attribute, session_kinds}
 use Rattle.sdp_formats_reader.proofs.attribute_choice.session_attribute.Goals as goal
 
-pub returns : goal.returns
+pub returns-in-Some : goal.returns-in-Some
 unfolding session_attribute
-returns c = grind (arith, common_steps)
+returns-in-Some c = chosen session_kinds (made Unused any_text) c.args.text.now c.known_attribute.result
+    c.in-Some.attribute refl c.known_attribute.ensures (sym c.in_ok-attribute.ensures ∙ ap Ok c.in-Some.is)
+
+pub returns-in-None : goal.returns-in-None
+unfolding session_attribute
+returns-in-None c = subst (Gives c.unused.result) (sym (passed-on session_kinds (made Unused any_text) c.args.text.now
+    c.known_attribute.result refl c.known_attribute.ensures (sym c.in_ok-attribute.ensures ∙ ap Ok c.in-None.is)))
+    c.unused.ensures

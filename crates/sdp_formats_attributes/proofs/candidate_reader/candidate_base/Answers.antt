@@ -1,8 +1,0 @@
-use Rattle.std.proofs.Common.{arith}
-use Rattle.std.proofs.lemmas.Grind.{common_steps}
-use Rattle.sdp_formats_attributes.specs.Candidates.{candidate_base}
-use Rattle.sdp_formats_attributes.proofs.candidate_reader.candidate_base.Goals as goal
-
-pub returns : goal.returns
-unfolding candidate_base
-returns c = grind (arith, common_steps)

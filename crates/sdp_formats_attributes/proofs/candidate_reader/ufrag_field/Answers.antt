@@ -1,8 +1,0 @@
-use Rattle.std.proofs.Common.{arith}
-use Rattle.std.proofs.lemmas.Grind.{common_steps}
-use Rattle.sdp_formats_attributes.specs.Candidates.{ufrag_field}
-use Rattle.sdp_formats_attributes.proofs.candidate_reader.ufrag_field.Goals as goal
-
-pub returns : goal.returns
-unfolding ufrag_field
-returns c = grind (arith, common_steps)
