@@ -5,7 +5,7 @@ use crate::remote::put_remote;
 use crate::texts::put_result;
 use crate::transport::Own;
 use crate::wishes::{sections, wishes};
-use command_lines::{Reply, parted};
+use command_lines::{ReplyText, parted};
 use rtp_media_browsers::for_end;
 use sdp_formats_data::Setup;
 use std::fs;
@@ -15,7 +15,7 @@ pub(crate) fn answer(
     rt: &HostRuntime,
     call: &mut Call,
     line: &str,
-    reply: &mut Reply,
+    reply: &mut ReplyText,
 ) -> anyhow::Result<()> {
     let alloc = rt.alloc();
     reply.put(line);
@@ -49,7 +49,7 @@ fn put_of_text(
     call: &mut Call,
     command: &str,
     (words, text): (&str, &str),
-    reply: &mut Reply,
+    reply: &mut ReplyText,
 ) -> anyhow::Result<()> {
     let alloc = rt.alloc();
     match command {

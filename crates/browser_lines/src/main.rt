@@ -11,7 +11,7 @@ mod transport;
 mod wishes;
 
 use call::Call;
-use command_lines::Reply;
+use command_lines::ReplyText;
 use commands::answer;
 use std::io;
 
@@ -21,7 +21,7 @@ fn main(rt: HostRuntime) -> anyhow::Result<()> {
     let mut call = Call::new(alloc, 1)?;
     let text = io::read_to_string(alloc, rt.reader())?;
     for line in text.as_str().lines() {
-        let mut reply = Reply::new(alloc);
+        let mut reply = ReplyText::new(alloc);
         answer(&rt, &mut call, line, &mut reply)?;
         let shown = reply.finish()?;
         println!(rt; "{shown}")?;

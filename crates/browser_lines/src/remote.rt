@@ -1,10 +1,10 @@
 //! What a browser tells of its transport.
 
-use command_lines::Reply;
+use command_lines::ReplyText;
 use rtp_media_browsers::Remote;
 
 /// Credentials, fingerprint, setup and candidates, and whether more of them may come.
-pub(crate) fn put_remote(remote: &Remote, reply: &mut Reply) {
+pub(crate) fn put_remote(remote: &Remote, reply: &mut ReplyText) {
     if let Some(creds) = &remote.creds {
         reply.say("\n  name ", &creds.ufrag);
         reply.say(", password ", &creds.pass);

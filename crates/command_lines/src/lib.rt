@@ -8,6 +8,6 @@ mod reply;
 mod words;
 
 pub use bytes::part;
-pub use line::Line;
-pub use reply::Reply;
+pub use line::CommandLine;
+pub use reply::ReplyText;
 pub use words::parted;

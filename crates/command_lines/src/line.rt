@@ -13,7 +13,7 @@ const IN_FULL: usize = 2000;
 
 /// A line that is read word after word, each behind one blank. A word that is missing or says no value is refused, and
 /// a default stands for it: the first refusal is the answer, whatever else is written.
-pub struct Line<'a> {
+pub struct CommandLine<'a> {
     pub(crate) alloc: Global,
     /// What is left.
     pub(crate) rest: &'a str,
@@ -24,9 +24,9 @@ pub struct Line<'a> {
 }
 
 /// Written by hand so that crates that drop this type need no proof about its fields.
-impl Drop for Line<'_> {
+impl Drop for CommandLine<'_> {
     fn drop(self) {
-        let Line {
+        let CommandLine {
             alloc: _alloc,
             rest: _rest,
             answer: _answer,
@@ -35,7 +35,7 @@ impl Drop for Line<'_> {
     }
 }
 
-impl<'a> Model for Line<'a> {
+impl<'a> Model for CommandLine<'a> {
     ghost use Rattle.std.specs.Prelude.{string_bytes};
     ghost use Rattle.command_lines.specs.Lines.{LineState, line_state};
 
@@ -44,12 +44,12 @@ impl<'a> Model for Line<'a> {
     ghost view = { λ l. line_state l.rest.now (string_bytes l.answer) l.is_refused };
 }
 
-impl<'a> Line<'a> {
+impl<'a> CommandLine<'a> {
     /// A line that no word was read of.
-    pub fn new(alloc: Global, whole: &'a str) -> Line<'a>
+    pub fn new(alloc: Global, whole: &'a str) -> CommandLine<'a>
         ensures { result ≡ unread whole.now }
     {
-        Line {
+        CommandLine {
             alloc,
             rest: whole,
             answer: String::new(alloc),

@@ -6,10 +6,10 @@ ghost use Rattle.command_lines.specs.Lines.{word_of, passed, is_comment, Answers
 ghost use Rattle.command_lines.specs.Lines.{Missing, Kept, ReadsBytes};
 
 use crate::bytes::{decoded, part};
-use crate::line::Line;
+use crate::line::CommandLine;
 use std::str::FromStr;
 
-impl<'a> Line<'a> {
+impl<'a> CommandLine<'a> {
     /// The command, the first word of a line; None of an empty line or a comment, which is answered by itself.
     pub fn command(&mut self) -> Option<&'a str>
         ensures comment { IsTrue (is_comment self.old.rest) → Answers self.old (Some self.old.rest) self.new }

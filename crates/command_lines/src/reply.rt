@@ -10,12 +10,12 @@ use std::marker::Model;
 
 /// The answer to a line, and whether there was memory for it: once there wasn't, nothing more is written.
 #[derive(Drop)]
-pub struct Reply {
+pub struct ReplyText {
     text: String,
     written: Result<(), AllocError>,
 }
 
-impl Model for Reply {
+impl Model for ReplyText {
     ghost use Rattle.std.specs.Prelude.{ℕ, List, Option, string_bytes};
     ghost use Rattle.command_lines.specs.Replies.{answer_of};
 
@@ -24,12 +24,12 @@ impl Model for Reply {
     ghost view = { λ r. answer_of r.written (string_bytes r.text) };
 }
 
-impl Reply {
+impl ReplyText {
     /// An empty answer.
     pub fn new(alloc: Global) -> Self
         ensures { result ≡ Some [] }
     {
-        Reply {
+        ReplyText {
             text: String::new(alloc),
             written: Ok(()),
         }

@@ -1,7 +1,7 @@
 //! A packetizer and a depacketizer that are boxed by their caller.
 
 use crate::formats::Format;
-use command_lines::Line;
+use command_lines::CommandLine;
 use h26x_payload::{CodecDepacketizer, CodecPacketizer};
 use payload_core::{
     Codec, Depacketizer, DepacketizingBuffer, MIN_HELD, PacketList, Payloader, RtpMeta, SentPacket,
@@ -11,7 +11,7 @@ use rtp_wire::{ExtensionValues, SeqNo};
 /// `boxed CODEC NUMBERS LIMIT SAMPLE`: the payloads of a sample through a boxed packetizer, with a star behind each
 /// that has the marker, and the bytes that they give through a boxed depacketizer. NUMBERS is how far units of H.265
 /// and H.266 may be out of their decoding order, 0 where they have no numbers.
-pub(crate) fn answer(line: &mut Line<'_>) {
+pub(crate) fn answer(line: &mut CommandLine<'_>) {
     let codec = Codec::from(line.word());
     let format = Format::new(codec, Some(line.number::<u16>()));
     let sink = send(line, &format);
@@ -19,7 +19,7 @@ pub(crate) fn answer(line: &mut Line<'_>) {
 }
 
 /// What the sample of the next two words, `LIMIT SAMPLE`, is sent as.
-fn send(line: &mut Line<'_>, format: &Format) -> PacketList {
+fn send(line: &mut CommandLine<'_>, format: &Format) -> PacketList {
     let mut sink = PacketList::new(line.alloc());
     let limit = line.number::<usize>();
     let sample = line.bytes();
@@ -41,7 +41,7 @@ fn send(line: &mut Line<'_>, format: &Format) -> PacketList {
 }
 
 /// The payloads and the bytes of their unit.
-fn receive(line: &mut Line<'_>, format: &Format, packets: &[SentPacket]) {
+fn receive(line: &mut CommandLine<'_>, format: &Format, packets: &[SentPacket]) {
     let Some(depacketizer) = format.depacketizer(line.alloc()) else {
         return;
     };
@@ -53,7 +53,11 @@ fn receive(line: &mut Line<'_>, format: &Format, packets: &[SentPacket]) {
 }
 
 /// The same by any depacketizer: the prover covers no buffer whose type names a boxed one.
-fn read<D: Depacketizer + Drop>(line: &mut Line<'_>, depacketizer: D, packets: &[SentPacket]) {
+fn read<D: Depacketizer + Drop>(
+    line: &mut CommandLine<'_>,
+    depacketizer: D,
+    packets: &[SentPacket],
+) {
     let mut buffer = DepacketizingBuffer::new(line.alloc(), depacketizer, 0, MIN_HELD);
     let mut number: u64 = 0;
     for packet in packets {

@@ -5,7 +5,7 @@ use crate::profiles::{idc, level, profile};
 use crate::samples::{head, keyframe, pack, pushed, read, short_packets, unit};
 use crate::units::{header, shows, units};
 use crate::{boxed, events, redundancy, vp8};
-use command_lines::Line;
+use command_lines::CommandLine;
 use payload_core::RedSender;
 use std::alloc::{AllocError, Global};
 
@@ -27,7 +27,7 @@ impl Kept {
 }
 
 /// Answers a line by what those before it set.
-pub(crate) fn answer(line: &mut Line<'_>, kept: &mut Kept) {
+pub(crate) fn answer(line: &mut CommandLine<'_>, kept: &mut Kept) {
     let Some(command) = line.command() else {
         return;
     };
@@ -51,7 +51,7 @@ pub(crate) fn answer(line: &mut Line<'_>, kept: &mut Kept) {
 }
 
 /// What a command gives about the payload format that was taken up last.
-fn of_format(line: &mut Line<'_>, formats: &mut Formats, command: &str) {
+fn of_format(line: &mut CommandLine<'_>, formats: &mut Formats, command: &str) {
     match command {
         "pack" => pack(line, &mut formats.payloader),
         "read" => read(line, &formats.format),

@@ -1,11 +1,11 @@
 //! Reports of telephone events (RFC 4733 2.3).
 
-use command_lines::Line;
+use command_lines::CommandLine;
 use payload_core::TelephoneEvent;
 use rtp_wire::Frequency;
 
 /// What `read RATE PACKET` and `write RATE EVENT VOLUME NANOSECONDS [end]` give.
-pub(crate) fn answer(line: &mut Line<'_>) {
+pub(crate) fn answer(line: &mut CommandLine<'_>) {
     let (command, rate) = (line.word(), line.word());
     let rate = line.value_or(rate, Frequency::MICROS);
     if command == "read" {
@@ -24,7 +24,7 @@ pub(crate) fn answer(line: &mut Line<'_>) {
 }
 
 /// The events of a packet, each as `write` reads it.
-fn read(line: &mut Line<'_>, rate: Frequency) {
+fn read(line: &mut CommandLine<'_>, rate: Frequency) {
     let packet = line.bytes();
     let Some(events) = TelephoneEvent::parse_all(&packet, rate) else {
         return line.refuse("no reports");

@@ -1,6 +1,6 @@
 //! The payload format that the next lines are about.
 
-use command_lines::{Line, part};
+use command_lines::{CommandLine, part};
 use h26x_payload::{CodecDepacketizer, CodecPacketizer, NotBoxed};
 use payload_core::{Codec, DepacketizingBuffer, MIN_HELD, Payloader};
 use rtp_wire::Frequency;
@@ -34,7 +34,7 @@ impl Format {
     }
 
     /// The codec and the options that words say, each by its name.
-    fn of(line: &mut Line<'_>) -> Format {
+    fn of(line: &mut CommandLine<'_>) -> Format {
         let mut format = Format::new(Codec::from(line.word()), None);
         for word in line.rest().split_whitespace() {
             let (name, number) = part(word, '=');
@@ -94,7 +94,7 @@ impl Formats {
 }
 
 /// `codec NAME [aligned] [numbers=N] [id=N] [browsers] [hold=N] [16kHz]`: takes up a payload format.
-pub(crate) fn take_up(line: &mut Line<'_>, formats: &mut Option<Formats>) {
+pub(crate) fn take_up(line: &mut CommandLine<'_>, formats: &mut Option<Formats>) {
     let whole = line.rest();
     let format = Format::of(line);
     let codec = format.codec;

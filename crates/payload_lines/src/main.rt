@@ -13,7 +13,7 @@ mod samples;
 mod units;
 mod vp8;
 
-use command_lines::Line;
+use command_lines::CommandLine;
 use commands::{Kept, answer};
 use std::io;
 
@@ -23,7 +23,7 @@ fn main(rt: HostRuntime) -> io::Result<()> {
     let mut kept = Kept::new(rt.alloc())?;
     let text = io::read_to_string(rt.alloc(), rt.reader())?;
     for whole in text.as_str().lines() {
-        let mut line = Line::new(rt.alloc(), whole);
+        let mut line = CommandLine::new(rt.alloc(), whole);
         answer(&mut line, &mut kept);
         let shown = line.answer();
         println!(rt; "{shown}")?;

@@ -1,6 +1,6 @@
 //! Profiles and levels of H.264, H.265 and H.266, from their numbers and from the values of a session text.
 
-use command_lines::Line;
+use command_lines::CommandLine;
 use h26x_payload::{
     H264LevelIdc, H264ProfileIdc, H264ProfileLevel, H265ProfileTierLevel, H266ProfileTierLevel,
 };
@@ -8,7 +8,7 @@ use std::fmt::Debug;
 
 /// `profile CODEC VALUE ..`: what a codec's values mean, of H.264 a profile-level-id in hexadecimal, of the others a
 /// profile-id, a tier-flag and a level-id, where a dash stands for one that isn't given.
-pub(crate) fn profile(line: &mut Line<'_>) {
+pub(crate) fn profile(line: &mut CommandLine<'_>) {
     match line.word() {
         "H264" => {
             let number = u32::from_str_radix(line.rest(), 16).unwrap_or(0);
@@ -29,7 +29,7 @@ pub(crate) fn profile(line: &mut Line<'_>) {
 }
 
 fn put_three<P: Debug + Drop, T: Debug + Drop, L: Debug + Drop>(
-    line: &mut Line<'_>,
+    line: &mut CommandLine<'_>,
     profile: P,
     tier: T,
     level: L,
@@ -38,7 +38,7 @@ fn put_three<P: Debug + Drop, T: Debug + Drop, L: Debug + Drop>(
 }
 
 /// The next word, unless a dash stands for it.
-fn given<'a>(line: &mut Line<'a>) -> Option<&'a str> {
+fn given<'a>(line: &mut CommandLine<'a>) -> Option<&'a str> {
     match line.word() {
         "-" => None,
         word => Some(word),
@@ -46,7 +46,7 @@ fn given<'a>(line: &mut Line<'a>) -> Option<&'a str> {
 }
 
 /// `idc NUMBER`: the profile of a profile_idc of H.264.
-pub(crate) fn idc(line: &mut Line<'_>) {
+pub(crate) fn idc(line: &mut CommandLine<'_>) {
     match H264ProfileIdc::try_from(line.number::<u8>()) {
         Ok(idc) => line.put(format_args!("{idc:?}")),
         Err(fault) => line.refuse(fault),
@@ -54,7 +54,7 @@ pub(crate) fn idc(line: &mut Line<'_>) {
 }
 
 /// `level NUMBER`: the level of a level_idc of H.264, and its place among the levels.
-pub(crate) fn level(line: &mut Line<'_>) {
+pub(crate) fn level(line: &mut CommandLine<'_>) {
     match H264LevelIdc::try_from(line.number::<u8>()) {
         Ok(level) => line.put(format_args!("{level:?} {}", level.ordinal())),
         Err(fault) => line.refuse(fault),

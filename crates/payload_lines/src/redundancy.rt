@@ -1,10 +1,10 @@
 //! Payloads beside older ones (RFC 2198).
 
-use command_lines::{Line, part};
+use command_lines::{CommandLine, part};
 use payload_core::{RedDecoder, RedEncoder, RedSender, RedundantBlock};
 
 /// What `new DISTANCES`, `sync DISTANCES`, `wrap`, `write` and `read PACKET` give.
-pub(crate) fn answer(line: &mut Line<'_>, sender: &mut RedSender) {
+pub(crate) fn answer(line: &mut CommandLine<'_>, sender: &mut RedSender) {
     match line.word() {
         "wrap" => wrapped(line, sender),
         "write" => written(line),
@@ -16,7 +16,7 @@ pub(crate) fn answer(line: &mut Line<'_>, sender: &mut RedSender) {
 }
 
 /// Forgets what was sent, and takes the distances of the next word, if they are some.
-fn renewed(line: &mut Line<'_>, sender: &mut RedSender) {
+fn renewed(line: &mut CommandLine<'_>, sender: &mut RedSender) {
     match RedSender::new(line.alloc(), &[]) {
         Ok(other) => {
             *sender = other;
@@ -27,7 +27,7 @@ fn renewed(line: &mut Line<'_>, sender: &mut RedSender) {
 }
 
 /// Takes the distances of the next word, if they are some: numbers that commas part, or a dash for none.
-fn synced(line: &mut Line<'_>, sender: &mut RedSender) {
+fn synced(line: &mut CommandLine<'_>, sender: &mut RedSender) {
     let mut distances = Vec::new(line.alloc());
     let word = line.word();
     for part in if word == "-" { "" } else { word }.split_terminator(',') {
@@ -43,7 +43,7 @@ fn synced(line: &mut Line<'_>, sender: &mut RedSender) {
 }
 
 /// `wrap TYPE TIME BUDGET PAYLOAD`: the packet that a payload is sent in.
-fn wrapped(line: &mut Line<'_>, sender: &mut RedSender) {
+fn wrapped(line: &mut CommandLine<'_>, sender: &mut RedSender) {
     let (pt, time) = (line.number::<u8>(), line.number::<u32>());
     let budget = line.number::<usize>();
     let payload = line.bytes();
@@ -57,7 +57,7 @@ fn wrapped(line: &mut Line<'_>, sender: &mut RedSender) {
 }
 
 /// A block from `TYPE@OFFSET=PAYLOAD`.
-fn block_of(line: &mut Line<'_>, word: &str) -> RedundantBlock {
+fn block_of(line: &mut CommandLine<'_>, word: &str) -> RedundantBlock {
     let (pt, rest) = part(word, '@');
     let (offset, payload) = part(rest, '=');
     RedundantBlock {
@@ -68,7 +68,7 @@ fn block_of(line: &mut Line<'_>, word: &str) -> RedundantBlock {
 }
 
 /// `write TYPE PAYLOAD BLOCK ..`: the packet of a primary payload behind blocks.
-fn written(line: &mut Line<'_>) {
+fn written(line: &mut CommandLine<'_>) {
     let pt = line.number::<u8>();
     let payload = line.bytes();
     let mut blocks = Vec::new(line.alloc());
@@ -83,7 +83,7 @@ fn written(line: &mut Line<'_>) {
 }
 
 /// The blocks of a packet, each as `write` reads it, and a star behind the primary payload.
-fn read(line: &mut Line<'_>) {
+fn read(line: &mut CommandLine<'_>) {
     let packet = line.bytes();
     match RedDecoder::decode(&packet) {
         Ok(blocks) => {

@@ -1,7 +1,7 @@
 //! Samples that are packed, and packets that are read and held.
 
 use crate::formats::{Format, Formats};
-use command_lines::Line;
+use command_lines::CommandLine;
 use h26x_payload::{detect_h264_keyframe, detect_h265_keyframe, detect_h266_keyframe};
 use payload_core::{
     Codec, CodecExtra, Depacketized, Depacketizer, PacketError, PacketList, Packetizer, Payloader,
@@ -11,7 +11,7 @@ use rtp_wire::{ExtensionValues, SeqNo};
 use std::alloc::Global;
 
 /// `head PACKET`: whether a packet is the head of a frame.
-pub(crate) fn head(line: &mut Line<'_>, format: &Format) {
+pub(crate) fn head(line: &mut CommandLine<'_>, format: &Format) {
     let packet = line.bytes();
     if let Some(reader) = format.depacketizer(line.alloc()) {
         line.put_whether(reader.is_partition_head(&packet));
@@ -19,7 +19,7 @@ pub(crate) fn head(line: &mut Line<'_>, format: &Format) {
 }
 
 /// `keyframe PACKET`: whether a packet shows a keyframe of a codec that has a test of that.
-pub(crate) fn keyframe(line: &mut Line<'_>, codec: Codec) {
+pub(crate) fn keyframe(line: &mut CommandLine<'_>, codec: Codec) {
     let packet = line.bytes();
     line.put_whether(match codec {
         Codec::Vp8 => detect_vp8_keyframe(&packet),
@@ -32,7 +32,7 @@ pub(crate) fn keyframe(line: &mut Line<'_>, codec: Codec) {
 }
 
 /// Payloads, parted by blanks, and a star behind each that has the marker; a dash stands for none.
-fn put_payloads(line: &mut Line<'_>, packets: &[SentPacket]) {
+fn put_payloads(line: &mut CommandLine<'_>, packets: &[SentPacket]) {
     line.put_where(packets.is_empty(), "- ");
     for sent in packets {
         line.put_bytes(sent.payload.as_slice());
@@ -42,7 +42,7 @@ fn put_payloads(line: &mut Line<'_>, packets: &[SentPacket]) {
 }
 
 /// `pack LIMIT SAMPLE`: the payloads that a sample is sent as.
-pub(crate) fn pack<P: Packetizer>(line: &mut Line<'_>, payloader: &mut Payloader<P>) {
+pub(crate) fn pack<P: Packetizer>(line: &mut CommandLine<'_>, payloader: &mut Payloader<P>) {
     let limit = line.number::<usize>();
     let sample = line.bytes();
     if line.is_refused() {
@@ -57,7 +57,7 @@ pub(crate) fn pack<P: Packetizer>(line: &mut Line<'_>, payloader: &mut Payloader
 }
 
 /// `read PACKET ..`: the bytes that packets give, one after the other from no open fragment on, and what is told then.
-pub(crate) fn read(line: &mut Line<'_>, format: &Format) {
+pub(crate) fn read(line: &mut CommandLine<'_>, format: &Format) {
     let mut bytes = Vec::new(line.alloc());
     let mut extra = CodecExtra::None;
     let read = read_all(line, format, &mut bytes, &mut extra);
@@ -69,7 +69,7 @@ pub(crate) fn read(line: &mut Line<'_>, format: &Format) {
 }
 
 fn read_all(
-    line: &mut Line<'_>,
+    line: &mut CommandLine<'_>,
     format: &Format,
     bytes: &mut Vec<u8>,
     extra: &mut CodecExtra,
@@ -84,7 +84,7 @@ fn read_all(
 }
 
 /// `push NUMBER TIME PACKET`: the packet is held, with the marker where a star stands behind it.
-pub(crate) fn pushed(line: &mut Line<'_>, formats: &mut Formats) {
+pub(crate) fn pushed(line: &mut CommandLine<'_>, formats: &mut Formats) {
     let meta = RtpMeta {
         seq_no: SeqNo::from(line.number::<u64>()),
         time: line.number::<u32>(),
@@ -102,7 +102,7 @@ pub(crate) fn pushed(line: &mut Line<'_>, formats: &mut Formats) {
 }
 
 /// The numbers of a unit's first and last packet, its time, its bytes and what is told of it; or that there is none.
-pub(crate) fn unit(line: &mut Line<'_>, unit: Result<Option<Depacketized>, PacketError>) {
+pub(crate) fn unit(line: &mut CommandLine<'_>, unit: Result<Option<Depacketized>, PacketError>) {
     match unit {
         Ok(Some(unit)) => {
             let range = unit.seq_range();
@@ -127,7 +127,7 @@ fn is_read(alloc: Global, format: &Format, packet: &[u8]) -> bool {
 }
 
 /// `short`: how many of the packets of no byte, one and two bytes are read.
-pub(crate) fn short_packets(line: &mut Line<'_>, format: &Format) {
+pub(crate) fn short_packets(line: &mut CommandLine<'_>, format: &Format) {
     let none = u32::from(is_read(line.alloc(), format, &[]));
     let mut ones: u32 = 0;
     let mut twos: u32 = 0;

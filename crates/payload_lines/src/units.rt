@@ -1,13 +1,13 @@
 //! Units and headers of H.264, H.265 and H.266.
 
-use command_lines::Line;
+use command_lines::CommandLine;
 use h26x_payload::{
     H265FragmentationUnitHeader, H265NALUHeader, H266FragmentationUnitHeader, H266NALUHeader,
     detect_h264_nalu, nal_units,
 };
 
 /// `units TEXT`: the units of a text (ITU-T H.264 annex B), parted by blanks; a dash stands for none.
-pub(crate) fn units(line: &mut Line<'_>) {
+pub(crate) fn units(line: &mut CommandLine<'_>) {
     let text = line.bytes();
     for unit in nal_units(&text) {
         line.put_bytes(unit);
@@ -18,14 +18,14 @@ pub(crate) fn units(line: &mut Line<'_>) {
 }
 
 /// `shows TYPE PACKET`: whether an H.264 packet shows a unit of a type.
-pub(crate) fn shows(line: &mut Line<'_>) {
+pub(crate) fn shows(line: &mut CommandLine<'_>) {
     let nalu_type = line.number::<u8>();
     let packet = line.bytes();
     line.put_whether(detect_h264_nalu(&packet, nalu_type))
 }
 
 /// `header CODEC BYTES`: what a header tells, of one byte that of a fragment, of two that of a unit or a packet.
-pub(crate) fn header(line: &mut Line<'_>) {
+pub(crate) fn header(line: &mut CommandLine<'_>) {
     let codec = line.word();
     let bytes = line.bytes();
     match codec {
@@ -36,7 +36,7 @@ pub(crate) fn header(line: &mut Line<'_>) {
 }
 
 /// An H.265 header; of a fragment S, E and the type, and the header of these three.
-fn header_h265(line: &mut Line<'_>, bytes: &[u8]) {
+fn header_h265(line: &mut CommandLine<'_>, bytes: &[u8]) {
     match bytes {
         [byte] => {
             let header = H265FragmentationUnitHeader(*byte);
@@ -53,7 +53,7 @@ fn header_h265(line: &mut Line<'_>, bytes: &[u8]) {
 }
 
 /// An H.265 unit's header: what it is of, F, the type, the layer and TID, and the header of these three.
-fn unit_h265(line: &mut Line<'_>, header: H265NALUHeader) {
+fn unit_h265(line: &mut CommandLine<'_>, header: H265NALUHeader) {
     line.put(if header.is_aggregation_packet() {
         "aggregate "
     } else if header.is_fragmentation_unit() {
@@ -76,7 +76,7 @@ fn unit_h265(line: &mut Line<'_>, header: H265NALUHeader) {
 }
 
 /// An H.266 header; of a fragment S, E, P and the type, and the header of these four.
-fn header_h266(line: &mut Line<'_>, bytes: &[u8]) {
+fn header_h266(line: &mut CommandLine<'_>, bytes: &[u8]) {
     match bytes {
         [byte] => {
             let header = H266FragmentationUnitHeader(*byte);
@@ -90,7 +90,7 @@ fn header_h266(line: &mut Line<'_>, bytes: &[u8]) {
 }
 
 /// An H.266 unit's header: what it is of, F and Z, the type, the layer and TID, and the header of these three.
-fn unit_h266(line: &mut Line<'_>, header: H266NALUHeader) {
+fn unit_h266(line: &mut CommandLine<'_>, header: H266NALUHeader) {
     line.put(if header.is_aggregation_packet() {
         "aggregate "
     } else if header.is_fragmentation_unit() {

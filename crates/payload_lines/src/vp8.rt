@@ -1,6 +1,6 @@
 //! Ids in VP8 payload descriptors (RFC 7741 4.2).
 
-use command_lines::{Line, part};
+use command_lines::{CommandLine, part};
 use payload_core::{Vp8Descriptor, Vp8Patch};
 
 // A payload of so many bytes reaches each id that a descriptor can have.
@@ -8,7 +8,7 @@ const REACHES_IDS: usize = 6;
 
 /// What `read PAYLOAD` and `patch PAYLOAD [id=N] [tl0=N] [key=N]` give: the picture id, TL0PICIDX and KEYIDX of a
 /// payload and whether it begins a keyframe, or the payload with other ids.
-pub(crate) fn answer(line: &mut Line<'_>) {
+pub(crate) fn answer(line: &mut CommandLine<'_>) {
     let command = line.word();
     let payload = line.bytes();
     match Vp8Descriptor::parse(&payload) {
@@ -25,7 +25,7 @@ pub(crate) fn answer(line: &mut Line<'_>) {
 }
 
 /// A payload with the ids that words say, each by its name, in place of its own.
-fn patched(line: &mut Line<'_>, descriptor: &Vp8Descriptor, payload: &[u8]) {
+fn patched(line: &mut CommandLine<'_>, descriptor: &Vp8Descriptor, payload: &[u8]) {
     let mut builder = descriptor.patch();
     for word in line.rest().split_whitespace() {
         let (name, number) = part(word, '=');
@@ -43,7 +43,7 @@ fn patched(line: &mut Line<'_>, descriptor: &Vp8Descriptor, payload: &[u8]) {
 }
 
 /// A payload with the ids of a patch.
-fn copied(line: &mut Line<'_>, payload: &[u8], patch: &Vp8Patch) {
+fn copied(line: &mut CommandLine<'_>, payload: &[u8], patch: &Vp8Patch) {
     if payload.len() < REACHES_IDS {
         return line.refuse("a payload of fewer than six bytes");
     }

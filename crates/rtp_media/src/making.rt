@@ -9,13 +9,13 @@ use crate::end_error_names::end_error_name;
 use crate::memory_name::memory;
 use crate::replies::one;
 use rtp_media_ends::{Codec, CodecConfig, CodecSpec, End, FormatParams, PayloadParams, Session};
-use rtp_media_lines::{EndCommand, ExtCommand, Reply, RowCommand, Text};
+use rtp_media_lines::{EndCommand, ExtCommand, Reply, RowCommand, Word};
 use rtp_wire::{Extension, ExtensionMap, Frequency, Pt, SessionId};
 use std::alloc::{AllocError, Global};
 use std::mem;
 
 /// The format of a command.
-fn format_for(text: &Option<Text>) -> FormatParams
+fn format_for(text: &Option<Word>) -> FormatParams
     ensures { result ≡ format_for text.now }
 {
     match text {

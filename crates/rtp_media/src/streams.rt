@@ -11,7 +11,7 @@ use crate::replies::one;
 use rtp_media_ends::{Datagram, Distances, End, Received, StreamParams, Unit, may_hold};
 use rtp_media_lines::{
     Bytes, OpenCommand, PollCommand, ReceiveCommand, RepairCommand, Reply, SampleCommand,
-    SendCommand, Text,
+    SendCommand, Word,
 };
 use rtp_wire::{ExtensionValues, MediaTime, Mid, Pt, Ssrc};
 use std::alloc::{AllocError, Global};
@@ -110,7 +110,7 @@ pub fn sample(
 }
 
 /// The values that a sample is given.
-fn values_given(mid: &Option<Text>) -> ExtensionValues
+fn values_given(mid: &Option<Word>) -> ExtensionValues
     ensures { result ≡ values_given mid.now }
 {
     let mut values = ExtensionValues::absent();

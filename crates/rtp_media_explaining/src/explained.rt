@@ -10,7 +10,7 @@ use crate::forms::FORMS;
 use crate::known::Known;
 use crate::lines::text_of;
 use crate::reasons::reason_for;
-use command_lines::Reply;
+use command_lines::ReplyText;
 use std::alloc::{AllocError, Global};
 
 /// What came of a line, in words, each line of it with its line feed: the line with its number, the replies to it and
@@ -32,7 +32,7 @@ pub fn explain(
     ensures stopped { OnErr result (NotesFirst known.old known.new (text_of line.now)
         (lines (text_of replies.now))) }
 {
-    let mut said = Reply::new(alloc);
+    let mut said = ReplyText::new(alloc);
     let text = text_of(line);
     said.say("", &number);
     put_line(" ", text, &mut said);
@@ -48,7 +48,7 @@ pub fn explain(
 }
 
 /// Writes a reply, and the text of an offer or an answer line by line.
-fn put_reply(alloc: Global, reply: &str, said: &mut Reply) {
+fn put_reply(alloc: Global, reply: &str, said: &mut ReplyText) {
     let Some(digits) = reply.strip_prefix("text ") else {
         return put_line("  ", reply, said);
     };
@@ -60,7 +60,7 @@ fn put_reply(alloc: Global, reply: &str, said: &mut Reply) {
 }
 
 /// Writes why a reply says no, where it does, and what became of an end that the line makes anew.
-fn put_about(known: &Known, number: u64, line: &[u8], reply: &str, said: &mut Reply) {
+fn put_about(known: &Known, number: u64, line: &[u8], reply: &str, said: &mut ReplyText) {
     if let Some(reason) = reason_for(known, line, reply) {
         said.say("  line ", &number);
         said.say(": ", &reason);
@@ -70,13 +70,13 @@ fn put_about(known: &Known, number: u64, line: &[u8], reply: &str, said: &mut Re
 }
 
 /// Writes the lines of a text, each behind some blanks.
-fn put_lines(blanks: &str, text: &str, said: &mut Reply) {
+fn put_lines(blanks: &str, text: &str, said: &mut ReplyText) {
     for line in text.lines() {
         put_line(blanks, line, said);
     }
 }
 
-fn put_line(blanks: &str, line: &str, said: &mut Reply) {
+fn put_line(blanks: &str, line: &str, said: &mut ReplyText) {
     said.put(blanks);
     said.put(line);
     said.put("\n");

@@ -3,7 +3,7 @@
 use crate::exchange::{
     AcceptCommand, AnswerCommand, ConnectCommand, EndCommand, ExtCommand, OfferCommand, RowCommand,
 };
-use crate::owned::{Bytes, Text};
+use crate::owned::{Bytes, Word};
 use crate::playing::{PlayCommand, QueueCommand};
 use crate::words::Letter;
 
@@ -13,7 +13,7 @@ pub struct SendCommand {
     /// The end that sends.
     pub letter: Letter,
     /// The media identification of the section (RFC 5888 4).
-    pub mid: Text,
+    pub mid: Word,
     /// The synchronization source (RFC 3550 3).
     pub ssrc: u32,
     /// The payload type (RFC 3551 6).
@@ -36,7 +36,7 @@ pub struct OpenCommand {
     /// The end that receives.
     pub letter: Letter,
     /// The media identification of the section (RFC 5888 4).
-    pub mid: Text,
+    pub mid: Word,
     /// The synchronization source (RFC 3550 3).
     pub ssrc: u32,
     /// The payload type (RFC 3551 6).
@@ -59,7 +59,7 @@ pub struct SampleCommand {
     /// The sample's bytes.
     pub sample: Bytes,
     /// The media identification that its header extension carries (RFC 9143 15), where one is given.
-    pub mid: Option<Text>,
+    pub mid: Option<Word>,
 }
 
 /// `repair E N HEX`: send a datagram again under the repair pair of its stream (RFC 4588).

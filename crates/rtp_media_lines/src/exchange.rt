@@ -9,9 +9,9 @@ use crate::fields::{
     hex_word, letter_word, number_or_dash_word, number_word, text_or_dash_word, text_word,
 };
 use crate::misread::Misread;
-use crate::owned::{Bytes, Text};
+use crate::owned::{Bytes, Word};
 use crate::sections::{Sections, section_words, sections_before_slash};
-use crate::words::{Letter, Words};
+use crate::words::{Letter, WordsLeft};
 use std::alloc::Global;
 
 /// `row E PT RTX RED CODEC CLOCK CHANNELS FMTP`: put a row into the draft of an end.
@@ -26,13 +26,13 @@ pub struct RowCommand {
     /// The type of redundant audio (RFC 2198), or none at a dash.
     pub red: Option<u8>,
     /// The name of the codec (RFC 8866 6.6).
-    pub codec: Text,
+    pub codec: Word,
     /// The clock rate in ticks a second.
     pub clock_rate: u32,
     /// The number of channels, or none at a dash.
     pub channels: Option<u8>,
     /// The format parameters as an `a=fmtp` line has them (RFC 8866 6.15), or none at a dash.
-    pub format: Option<Text>,
+    pub format: Option<Word>,
 }
 
 /// `ext E ID URI`: put a header extension into the draft of an end.
@@ -43,7 +43,7 @@ pub struct ExtCommand {
     /// The number in headers (RFC 8285 4).
     pub id: u8,
     /// The URI that names the extension.
-    pub uri: Text,
+    pub uri: Word,
 }
 
 /// `end E SESSION`: replace an end by a new one of its draft.
@@ -98,7 +98,7 @@ pub struct ConnectCommand {
 /// # Errors
 /// `NotUnderstood` where they aren't such words, `Memory` where memory runs out.
 #[tactic(auto, unfolding(crate::specs::ExchangeLines::row_of))]
-pub fn row_of(alloc: Global, words: Words<'_>) -> Result<Command, Misread>
+pub fn row_of(alloc: Global, words: WordsLeft<'_>) -> Result<Command, Misread>
     ensures { Reads result (row_of words.entry) }
 {
     let (letter, rest) = letter_word(words)?;
@@ -115,7 +115,7 @@ fn rest_of_row(
     pt: u8,
     resend: Option<u8>,
     red: Option<u8>,
-    words: Words<'_>,
+    words: WordsLeft<'_>,
 ) -> Result<Command, Misread>
     ensures { Reads result (rest_of_row letter pt resend red words.entry) }
 {
@@ -141,7 +141,7 @@ fn rest_of_row(
 /// # Errors
 /// `NotUnderstood` where they aren't such words, `Memory` where memory runs out.
 #[tactic(auto, unfolding(crate::specs::ExchangeLines::ext_of))]
-pub fn ext_of(alloc: Global, words: Words<'_>) -> Result<Command, Misread>
+pub fn ext_of(alloc: Global, words: WordsLeft<'_>) -> Result<Command, Misread>
     ensures { Reads result (ext_of words.entry) }
 {
     let (letter, rest) = letter_word(words)?;
@@ -160,7 +160,7 @@ pub fn ext_of(alloc: Global, words: Words<'_>) -> Result<Command, Misread>
 /// # Errors
 /// `NotUnderstood` where they aren't such words.
 #[tactic(auto, unfolding(crate::specs::ExchangeLines::end_of))]
-pub fn end_of(words: Words<'_>) -> Result<Command, Misread>
+pub fn end_of(words: WordsLeft<'_>) -> Result<Command, Misread>
     ensures { Reads result (end_of words.entry) }
 {
     let (letter, rest) = letter_word(words)?;
@@ -174,7 +174,7 @@ pub fn end_of(words: Words<'_>) -> Result<Command, Misread>
 /// # Errors
 /// `NotUnderstood` where they aren't such words, `Memory` where memory runs out.
 #[tactic(auto, unfolding(crate::specs::ExchangeLines::offer_of))]
-pub fn offer_of(alloc: Global, words: Words<'_>) -> Result<Command, Misread>
+pub fn offer_of(alloc: Global, words: WordsLeft<'_>) -> Result<Command, Misread>
     ensures { Reads result (offer_of words.entry) }
 {
     let (letter, rest) = letter_word(words)?;
@@ -187,7 +187,7 @@ pub fn offer_of(alloc: Global, words: Words<'_>) -> Result<Command, Misread>
 /// # Errors
 /// `NotUnderstood` where they aren't such words, `Memory` where memory runs out.
 #[tactic(auto, unfolding(crate::specs::ExchangeLines::answer_of))]
-pub fn answer_of(alloc: Global, words: Words<'_>) -> Result<Command, Misread>
+pub fn answer_of(alloc: Global, words: WordsLeft<'_>) -> Result<Command, Misread>
     ensures { Reads result (answer_of words.entry) }
 {
     let (letter, rest) = letter_word(words)?;
@@ -205,7 +205,7 @@ pub fn answer_of(alloc: Global, words: Words<'_>) -> Result<Command, Misread>
 /// # Errors
 /// `NotUnderstood` where they aren't such words, `Memory` where memory runs out.
 #[tactic(auto, unfolding(crate::specs::ExchangeLines::accept_of))]
-pub fn accept_of(alloc: Global, words: Words<'_>) -> Result<Command, Misread>
+pub fn accept_of(alloc: Global, words: WordsLeft<'_>) -> Result<Command, Misread>
     ensures { Reads result (accept_of words.entry) }
 {
     let (letter, rest) = letter_word(words)?;
@@ -219,7 +219,7 @@ pub fn accept_of(alloc: Global, words: Words<'_>) -> Result<Command, Misread>
 /// # Errors
 /// `NotUnderstood` where they aren't such words.
 #[tactic(auto, unfolding(crate::specs::ExchangeLines::withdraw_of))]
-pub fn withdraw_of(words: Words<'_>) -> Result<Command, Misread>
+pub fn withdraw_of(words: WordsLeft<'_>) -> Result<Command, Misread>
     ensures { Reads result (withdraw_of words.entry) }
 {
     let (letter, rest) = letter_word(words)?;
@@ -232,7 +232,7 @@ pub fn withdraw_of(words: Words<'_>) -> Result<Command, Misread>
 /// # Errors
 /// `NotUnderstood` where they aren't such words, `Memory` where memory runs out.
 #[tactic(auto, unfolding(crate::specs::ExchangeLines::connect_of))]
-pub fn connect_of(alloc: Global, words: Words<'_>) -> Result<Command, Misread>
+pub fn connect_of(alloc: Global, words: WordsLeft<'_>) -> Result<Command, Misread>
     ensures { Reads result (connect_of words.entry) }
 {
     let (offered, rest) = sections_before_slash(alloc, words)?;

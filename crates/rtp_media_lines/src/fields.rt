@@ -7,8 +7,8 @@ ghost use Rattle.rtp_media_lines.specs.Words.{comma_parts, parts_in, first, behi
 ghost use Rattle.rtp_media_lines.specs.Misreads.{Reads};
 
 use crate::misread::Misread;
-use crate::owned::{Bytes, Text};
-use crate::words::{Letter, Words};
+use crate::owned::{Bytes, Word};
+use crate::words::{Letter, WordsLeft};
 use hex::FromHexError;
 use std::alloc::Global;
 
@@ -108,7 +108,7 @@ pub(crate) fn split_comma(text: &str) -> (&str, Option<&str>)
 /// # Errors
 ///
 /// `NotUnderstood` where no word is left, or it names no end.
-pub fn letter_word(words: Words<'_>) -> Result<(Letter, Words<'_>), Misread>
+pub fn letter_word(words: WordsLeft<'_>) -> Result<(Letter, WordsLeft<'_>), Misread>
     ensures value { Reads result (first letter_of words.entry) }
     ensures never_memory { IfErr result (λ e. e ≢ Misread.Memory) }
 {
@@ -124,7 +124,7 @@ pub fn letter_word(words: Words<'_>) -> Result<(Letter, Words<'_>), Misread>
 /// # Errors
 ///
 /// `NotUnderstood` where no word is left, or it is no such number.
-pub fn number_word(words: Words<'_>, max: u64) -> Result<(u64, Words<'_>), Misread>
+pub fn number_word(words: WordsLeft<'_>, max: u64) -> Result<(u64, WordsLeft<'_>), Misread>
     ensures value { Reads result (first (number_below (max + 1)) words.entry) }
     ensures bound { IfOk result (λ x. x.0 ≤ max) }
     ensures never_memory { IfErr result (λ e. e ≢ Misread.Memory) }
@@ -141,14 +141,14 @@ pub fn number_word(words: Words<'_>, max: u64) -> Result<(u64, Words<'_>), Misre
 /// # Errors
 ///
 /// `NotUnderstood` where no word is left, or it is empty; or `Memory`.
-pub fn text_word(alloc: Global, words: Words<'_>) -> Result<(Text, Words<'_>), Misread>
+pub fn text_word(alloc: Global, words: WordsLeft<'_>) -> Result<(Word, WordsLeft<'_>), Misread>
     ensures { Reads result (first text_of words.entry) }
 {
     let (word, rest) = words.next()?;
     if word.is_empty() {
         return Err(Misread::NotUnderstood);
     }
-    Ok((Text::from_str(alloc, word)?, rest))
+    Ok((Word::from_str(alloc, word)?, rest))
 }
 
 /// The bytes that the next word writes in hexadecimal digits.
@@ -156,7 +156,7 @@ pub fn text_word(alloc: Global, words: Words<'_>) -> Result<(Text, Words<'_>), M
 /// # Errors
 ///
 /// `NotUnderstood` where no word is left, or it isn't hexadecimal; or `Memory`.
-pub fn hex_word(alloc: Global, words: Words<'_>) -> Result<(Bytes, Words<'_>), Misread>
+pub fn hex_word(alloc: Global, words: WordsLeft<'_>) -> Result<(Bytes, WordsLeft<'_>), Misread>
     ensures { Reads result (first hex_of words.entry) }
 {
     let (word, rest) = words.next()?;
@@ -171,8 +171,8 @@ pub fn hex_word(alloc: Global, words: Words<'_>) -> Result<(Bytes, Words<'_>), M
 /// `NotUnderstood` where no word is left, or it is neither a dash nor numbers; or `Memory`.
 pub fn distances_word(
     alloc: Global,
-    words: Words<'_>,
-) -> Result<(Option<Bytes>, Words<'_>), Misread>
+    words: WordsLeft<'_>,
+) -> Result<(Option<Bytes>, WordsLeft<'_>), Misread>
     ensures { Reads result (first (dash_or numbers_of) words.entry) }
 {
     let (word, rest) = words.next()?;
@@ -188,7 +188,7 @@ pub fn distances_word(
 /// # Errors
 ///
 /// `NotUnderstood` where no word is left, or it is neither a dash nor a number below 65,536.
-pub fn picture_id_word(words: Words<'_>) -> Result<(Option<u16>, Words<'_>), Misread>
+pub fn picture_id_word(words: WordsLeft<'_>) -> Result<(Option<u16>, WordsLeft<'_>), Misread>
     ensures value { Reads result (first (dash_or (number_below (2 ^ 16))) words.entry) }
     ensures never_memory { IfErr result (λ e. e ≢ Misread.Memory) }
 {
@@ -207,7 +207,7 @@ pub fn picture_id_word(words: Words<'_>) -> Result<(Option<u16>, Words<'_>), Mis
 /// # Errors
 ///
 /// `NotUnderstood` where no word is left, or it is neither a dash nor such a number.
-pub fn number_or_dash_word(words: Words<'_>) -> Result<(Option<u8>, Words<'_>), Misread>
+pub fn number_or_dash_word(words: WordsLeft<'_>) -> Result<(Option<u8>, WordsLeft<'_>), Misread>
     ensures value { Reads result (first (dash_or (number_below (2 ^ 8))) words.entry) }
     ensures never_memory { IfErr result (λ e. e ≢ Misread.Memory) }
 {
@@ -228,8 +228,8 @@ pub fn number_or_dash_word(words: Words<'_>) -> Result<(Option<u8>, Words<'_>), 
 /// `NotUnderstood` where no word is left, or it is empty; or `Memory`.
 pub fn text_or_dash_word(
     alloc: Global,
-    words: Words<'_>,
-) -> Result<(Option<Text>, Words<'_>), Misread>
+    words: WordsLeft<'_>,
+) -> Result<(Option<Word>, WordsLeft<'_>), Misread>
     ensures { Reads result (first (dash_or text_of) words.entry) }
 {
     let (word, rest) = words.next()?;
@@ -239,7 +239,7 @@ pub fn text_or_dash_word(
     if word.is_empty() {
         return Err(Misread::NotUnderstood);
     }
-    let text = Text::from_str(alloc, word)?;
+    let text = Word::from_str(alloc, word)?;
     Ok((Some(text), rest))
 }
 
@@ -258,7 +258,7 @@ const HELD: usize = 4096;
 /// # Errors
 ///
 /// `NotUnderstood` where the word is no number, or another stands behind it.
-pub fn held_value(words: Words<'_>) -> Result<usize, Misread>
+pub fn held_value(words: WordsLeft<'_>) -> Result<usize, Misread>
     ensures { Reads result (held_value words.entry) }
 {
     let Ok((word, rest)) = words.next() else {
@@ -276,7 +276,7 @@ pub fn held_value(words: Words<'_>) -> Result<usize, Misread>
 /// # Errors
 ///
 /// `NotUnderstood` where the word begins with something else, or another stands behind it; or `Memory`.
-pub fn mid_value(alloc: Global, words: Words<'_>) -> Result<Option<Text>, Misread>
+pub fn mid_value(alloc: Global, words: WordsLeft<'_>) -> Result<Option<Word>, Misread>
     ensures { Reads result (mid_value words.entry) }
 {
     let Ok((word, rest)) = words.next() else {
@@ -286,5 +286,5 @@ pub fn mid_value(alloc: Global, words: Words<'_>) -> Result<Option<Text>, Misrea
         return Err(Misread::NotUnderstood);
     };
     rest.end()?;
-    Ok(Some(Text::from_str(alloc, text)?))
+    Ok(Some(Word::from_str(alloc, text)?))
 }

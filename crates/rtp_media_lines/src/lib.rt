@@ -37,7 +37,7 @@ pub use line::Line;
 pub use line_buffer::MAX_LINE_LENGTH;
 pub use line_runs::{MAX_READS, answer_lines, run_lines, run_within};
 pub use misread::Misread;
-pub use owned::{Bytes, Text};
+pub use owned::{Bytes, Word};
 pub use playing::{PlayCommand, PlayItem, PlayItems, QueueCommand, play_of, queue_of};
 pub use reply::{ErrorName, Reply, print};
 pub use respond::Respond;
@@ -46,5 +46,5 @@ pub use sections::{
     SectionWord, Sections, SourceWord, Sources, section_words, sections_before_slash,
 };
 pub use status::{RunFault, Status};
-pub use words::{Letter, Words};
+pub use words::{Letter, WordsLeft};
 pub use writing::{WriteFault, write_whole};

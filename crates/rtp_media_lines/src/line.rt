@@ -17,9 +17,9 @@ use crate::fields::{
     text_word,
 };
 use crate::misread::Misread;
-use crate::owned::Text;
+use crate::owned::Word;
 use crate::playing::{play_of, queue_of};
-use crate::words::{Letter, Words};
+use crate::words::{Letter, WordsLeft};
 use std::alloc::{AllocError, Global};
 
 /// A line that is understood.
@@ -47,7 +47,7 @@ impl Line {
         let Ok(text) = str::from_utf8(bytes) else {
             return Ok(None);
         };
-        match command_of(alloc, Words::new(text)) {
+        match command_of(alloc, WordsLeft::new(text)) {
             Ok(command) => Ok(Some(Line::Command(command))),
             Err(fault) => match fault {
                 Misread::NotUnderstood => Ok(None),
@@ -57,7 +57,7 @@ impl Line {
     }
 }
 
-fn command_of(alloc: Global, words: Words<'_>) -> Result<Command, Misread>
+fn command_of(alloc: Global, words: WordsLeft<'_>) -> Result<Command, Misread>
     ensures { Reads result (command_of words.entry) }
 {
     let (verb, rest) = words.next()?;
@@ -73,7 +73,7 @@ fn command_of(alloc: Global, words: Words<'_>) -> Result<Command, Misread>
     }
 }
 
-fn exchange_command_of(alloc: Global, verb: &str, rest: Words<'_>) -> Result<Command, Misread>
+fn exchange_command_of(alloc: Global, verb: &str, rest: WordsLeft<'_>) -> Result<Command, Misread>
     ensures { Reads result (exchange_command_of verb.now rest.entry) }
 {
     match verb {
@@ -89,7 +89,7 @@ fn exchange_command_of(alloc: Global, verb: &str, rest: Words<'_>) -> Result<Com
     }
 }
 
-fn run_command_of(alloc: Global, verb: &str, rest: Words<'_>) -> Result<Command, Misread>
+fn run_command_of(alloc: Global, verb: &str, rest: WordsLeft<'_>) -> Result<Command, Misread>
     ensures { Reads result (run_command_of verb.now rest.entry) }
 {
     match verb {
@@ -100,7 +100,7 @@ fn run_command_of(alloc: Global, verb: &str, rest: Words<'_>) -> Result<Command,
 }
 
 #[tactic(auto, unfolding(crate::specs::Lines::fixed_of))]
-fn fixed_of(words: Words<'_>) -> Result<Command, Misread>
+fn fixed_of(words: WordsLeft<'_>) -> Result<Command, Misread>
     ensures { Reads result (fixed_of words.entry) }
 {
     let (letter, rest) = letter_word(words)?;
@@ -109,7 +109,7 @@ fn fixed_of(words: Words<'_>) -> Result<Command, Misread>
 }
 
 #[tactic(auto, unfolding(crate::specs::Lines::send_of))]
-fn send_of(alloc: Global, words: Words<'_>) -> Result<Command, Misread>
+fn send_of(alloc: Global, words: WordsLeft<'_>) -> Result<Command, Misread>
     ensures { Reads result (send_of words.entry) }
 {
     let (letter, rest) = letter_word(words)?;
@@ -123,10 +123,10 @@ fn send_of(alloc: Global, words: Words<'_>) -> Result<Command, Misread>
 fn rest_of_send(
     alloc: Global,
     letter: Letter,
-    mid: Text,
+    mid: Word,
     ssrc: u32,
     pt: u8,
-    words: Words<'_>,
+    words: WordsLeft<'_>,
 ) -> Result<Command, Misread>
     ensures { Reads result (rest_of_send letter mid ssrc pt words.entry) }
 {
@@ -150,7 +150,7 @@ fn rest_of_send(
 }
 
 #[tactic(auto, unfolding(crate::specs::Lines::open_of))]
-fn open_of(alloc: Global, words: Words<'_>) -> Result<Command, Misread>
+fn open_of(alloc: Global, words: WordsLeft<'_>) -> Result<Command, Misread>
     ensures { Reads result (open_of words.entry) }
 {
     let (letter, rest) = letter_word(words)?;
@@ -170,7 +170,7 @@ fn open_of(alloc: Global, words: Words<'_>) -> Result<Command, Misread>
 }
 
 #[tactic(auto, unfolding(crate::specs::Lines::sample_of))]
-fn sample_of(alloc: Global, words: Words<'_>) -> Result<Command, Misread>
+fn sample_of(alloc: Global, words: WordsLeft<'_>) -> Result<Command, Misread>
     ensures { Reads result (sample_of words.entry) }
 {
     let (letter, rest) = letter_word(words)?;
@@ -188,7 +188,7 @@ fn sample_of(alloc: Global, words: Words<'_>) -> Result<Command, Misread>
 }
 
 #[tactic(auto, unfolding(crate::specs::Lines::receive_of))]
-fn receive_of(alloc: Global, words: Words<'_>) -> Result<Command, Misread>
+fn receive_of(alloc: Global, words: WordsLeft<'_>) -> Result<Command, Misread>
     ensures { Reads result (receive_of words.entry) }
 {
     let (letter, rest) = letter_word(words)?;
@@ -198,7 +198,7 @@ fn receive_of(alloc: Global, words: Words<'_>) -> Result<Command, Misread>
 }
 
 #[tactic(auto, unfolding(crate::specs::Lines::poll_of))]
-fn poll_of(words: Words<'_>) -> Result<Command, Misread>
+fn poll_of(words: WordsLeft<'_>) -> Result<Command, Misread>
     ensures { Reads result (poll_of words.entry) }
 {
     let (letter, rest) = letter_word(words)?;
@@ -211,7 +211,7 @@ fn poll_of(words: Words<'_>) -> Result<Command, Misread>
 }
 
 #[tactic(auto, unfolding(crate::specs::Lines::repair_of))]
-fn repair_of(alloc: Global, words: Words<'_>) -> Result<Command, Misread>
+fn repair_of(alloc: Global, words: WordsLeft<'_>) -> Result<Command, Misread>
     ensures { Reads result (repair_of words.entry) }
 {
     let (letter, rest) = letter_word(words)?;

@@ -48,33 +48,33 @@ impl Bytes {
 }
 
 /// A word of a line, as its UTF-8 bytes.
-pub struct Text {
+pub struct Word {
     text: String,
 }
 
 /// Written by hand so that crates that drop this type need no proof about its fields.
-impl Drop for Text {
+impl Drop for Word {
     fn drop(self) {
-        let Text { text: _text } = self;
+        let Word { text: _text } = self;
     }
 }
 
-impl Model for Text {
+impl Model for Word {
     ghost Value = { List ℕ };
 
     ghost view = { λ t. string_bytes t.text };
 }
 
-impl Text {
+impl Word {
     /// A copy of the text.
     ///
     /// # Errors
     /// Only where memory runs out.
-    pub fn from_str(alloc: Global, text: &str) -> Result<Text, AllocError>
+    pub fn from_str(alloc: Global, text: &str) -> Result<Word, AllocError>
         ensures { IfOk result (λ owned. owned ≡ text.now) }
     {
         let text = String::from_str(alloc, text)?;
-        Ok(Text { text })
+        Ok(Word { text })
     }
 
     /// The text.

@@ -9,7 +9,7 @@ use crate::command::Command;
 use crate::fields::{behind, hex_of, hex_word, number_up_to, number_word};
 use crate::misread::Misread;
 use crate::owned::Bytes;
-use crate::words::Words;
+use crate::words::WordsLeft;
 use std::alloc::Global;
 use std::marker::Model;
 
@@ -76,7 +76,7 @@ pub struct PlayCommand {
 /// # Errors
 /// `NotUnderstood` where they aren't such words, `Memory` where memory runs out.
 #[tactic(auto, unfolding(crate::specs::PlayLines::queue_of))]
-pub fn queue_of(alloc: Global, words: Words<'_>) -> Result<Command, Misread>
+pub fn queue_of(alloc: Global, words: WordsLeft<'_>) -> Result<Command, Misread>
     ensures { Reads result (queue_of words.entry) }
 {
     let (time, rest) = number_word(words, u64::MAX)?;
@@ -90,7 +90,7 @@ pub fn queue_of(alloc: Global, words: Words<'_>) -> Result<Command, Misread>
 /// # Errors
 /// `NotUnderstood` where they aren't such words, `Memory` where memory runs out.
 #[tactic(auto, unfolding(crate::specs::PlayLines::play_of))]
-pub fn play_of(alloc: Global, words: Words<'_>) -> Result<Command, Misread>
+pub fn play_of(alloc: Global, words: WordsLeft<'_>) -> Result<Command, Misread>
     ensures { Reads result (play_of words.entry) }
 {
     let (tx, rest) = number_word(words, usize::MAX as u64)?;
@@ -134,7 +134,7 @@ fn place_of(number: &str) -> Result<usize, Misread>
 }
 
 /// The items of all words that are left.
-fn item_words(alloc: Global, words: Words<'_>) -> Result<PlayItems, Misread>
+fn item_words(alloc: Global, words: WordsLeft<'_>) -> Result<PlayItems, Misread>
     ensures { Reads result (items_of words.entry) }
 {
     let mut items = Vec::new(alloc);

@@ -10,8 +10,8 @@ ghost use Rattle.rtp_media_lines.specs.Misreads.{Reads};
 
 use crate::fields::{number_up_to, split_comma};
 use crate::misread::Misread;
-use crate::owned::Text;
-use crate::words::Words;
+use crate::owned::Word;
+use crate::words::WordsLeft;
 use payload_core_base::MediaKind;
 use rtp_wire::Direction;
 use std::alloc::Global;
@@ -53,7 +53,7 @@ impl Sources {
 /// `MID:KIND:DIR:SOURCE,SOURCE`: a section as an end wants it.
 pub struct SectionWord {
     /// The media identification (RFC 5888 4), which may be empty here.
-    pub mid: Text,
+    pub mid: Word,
     /// Audio or video.
     pub kind: MediaKind,
     /// Which way the end wants media to flow.
@@ -238,7 +238,7 @@ fn section_of(alloc: Global, word: &str) -> Result<SectionWord, Misread>
     };
     let sources = sources_of(alloc, sources)?;
     Ok(SectionWord {
-        mid: Text::from_str(alloc, mid)?,
+        mid: Word::from_str(alloc, mid)?,
         kind,
         direction,
         sources,
@@ -250,7 +250,7 @@ fn section_of(alloc: Global, word: &str) -> Result<SectionWord, Misread>
 /// # Errors
 ///
 /// `NotUnderstood` where a word is no section; or `Memory`.
-pub fn section_words(alloc: Global, words: Words<'_>) -> Result<Sections, Misread>
+pub fn section_words(alloc: Global, words: WordsLeft<'_>) -> Result<Sections, Misread>
     ensures { Reads result (sections_of words.entry) }
 {
     let mut items = Vec::new(alloc);
@@ -269,8 +269,8 @@ pub fn section_words(alloc: Global, words: Words<'_>) -> Result<Sections, Misrea
 /// `NotUnderstood` where there is no slash, or a word before it is no section; or `Memory`.
 pub fn sections_before_slash(
     alloc: Global,
-    words: Words<'_>,
-) -> Result<(Sections, Words<'_>), Misread>
+    words: WordsLeft<'_>,
+) -> Result<(Sections, WordsLeft<'_>), Misread>
     ensures { Reads result (sections_then_slash words.entry) }
 {
     let mut items = Vec::new(alloc);

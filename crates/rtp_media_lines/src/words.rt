@@ -19,22 +19,22 @@ pub enum Letter {
 
 /// The words that are still to be read.
 #[derive(Drop)]
-pub struct Words<'a> {
+pub struct WordsLeft<'a> {
     rest: Option<&'a str>,
 }
 
-impl<'a> Model for Words<'a> {
+impl<'a> Model for WordsLeft<'a> {
     ghost Value = { List (List ℕ) };
 
     ghost view = { λ w. words_in (option_copied w.rest) };
 }
 
-impl<'a> Words<'a> {
+impl<'a> WordsLeft<'a> {
     /// The words of a line, with one blank between each two.
-    pub fn new(line: &'a str) -> Words<'a>
+    pub fn new(line: &'a str) -> WordsLeft<'a>
         ensures { result ≡ words_of line.now }
     {
-        Words { rest: Some(line) }
+        WordsLeft { rest: Some(line) }
     }
 
     /// The first word, and the words behind it.
@@ -42,7 +42,7 @@ impl<'a> Words<'a> {
     /// # Errors
     ///
     /// `NotUnderstood` where no word is left.
-    pub fn next(self) -> Result<(&'a str, Words<'a>), Misread>
+    pub fn next(self) -> Result<(&'a str, WordsLeft<'a>), Misread>
         ensures found { IfOk result (λ x. self.entry ≡ x.0.now ∷ x.1) }
         ensures none { IfErr result (λ e. (e ≡ Misread.NotUnderstood) × (self.entry ≡ [])) }
     {
@@ -50,7 +50,7 @@ impl<'a> Words<'a> {
             return Err(Misread::NotUnderstood);
         };
         let (word, rest) = split_word(rest);
-        Ok((word, Words { rest }))
+        Ok((word, WordsLeft { rest }))
     }
 
     /// That no word is left.

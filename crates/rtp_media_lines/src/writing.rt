@@ -25,7 +25,7 @@ pub fn write_whole<W: Write>(writer: &mut W, bytes: &[u8]) -> Result<(), WriteFa
     Ok(())
 }
 
-/// One write, which answers the bytes that are still to be written.
+/// One write, which returns the bytes that are still to be written.
 fn write_some<'a, W: Write>(writer: &mut W, bytes: &'a [u8]) -> Result<&'a [u8], WriteFault>
     ensures ok { IfOk result (λ rest. LeavesRest (W.contents writer.old) (W.contents writer.new) bytes.now rest.now) }
     ensures shorter { IfOk result (λ rest. length rest.now < length bytes.now) }

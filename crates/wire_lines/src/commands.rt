@@ -4,7 +4,7 @@ use crate::headers::reading::{header_text, payload_text, run_text};
 use crate::headers::writing::{set_map, written};
 use crate::numbers::{extended, of_window};
 use crate::times::{comparison, difference, frequency, micros};
-use command_lines::Line;
+use command_lines::CommandLine;
 use rtp_wire::{ExtensionMap, SeqNo, SeqNoWindow};
 
 /// What lines set for those behind them: which number each header extension has, and a window.
@@ -25,7 +25,7 @@ impl Kept {
 }
 
 /// Answers a line by what those before it set.
-pub(crate) fn answer(line: &mut Line<'_>, kept: &mut Kept) {
+pub(crate) fn answer(line: &mut CommandLine<'_>, kept: &mut Kept) {
     let Some(command) = line.command() else {
         return;
     };

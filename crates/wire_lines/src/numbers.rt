@@ -1,10 +1,10 @@
 //! Numbers and windows.
 
-use command_lines::Line;
+use command_lines::CommandLine;
 use rtp_wire::{SeqNo, SeqNoWindow, extend_u7, extend_u8, extend_u15, extend_u16, extend_u32};
 
 /// `extend BITS PREVIOUS LOW`: a number of few bits, widened by the one before it, or by none where a dash stands.
-pub(crate) fn extended(line: &mut Line<'_>) {
+pub(crate) fn extended(line: &mut CommandLine<'_>) {
     let (bits, previous, low) = (line.word(), line.word(), line.number::<u32>());
     let previous = match previous {
         "-" => None,
@@ -22,7 +22,7 @@ pub(crate) fn extended(line: &mut Line<'_>) {
 
 /// `window N` is a window that recorded N alone, `window-after N` one that recorded all up to N, and `update N` records
 /// N at the window: each gives the greatest number. `accepts N` gives whether the window accepts N.
-pub(crate) fn of_window(line: &mut Line<'_>, window: &mut SeqNoWindow, command: &str) {
+pub(crate) fn of_window(line: &mut CommandLine<'_>, window: &mut SeqNoWindow, command: &str) {
     let number = SeqNo::from(line.number::<u64>());
     match command {
         _ if line.is_refused() => {}

@@ -1,10 +1,10 @@
 //! What is read, as text.
 
-use command_lines::Line;
+use command_lines::CommandLine;
 use rtp_wire::{ExtensionMap, ExtensionValues, Reception, RtpHeader, receive_run, unpad_payload};
 
 /// The fields, each as the words of a header that is written say it.
-fn put_fields(line: &mut Line<'_>, header: &RtpHeader) {
+fn put_fields(line: &mut CommandLine<'_>, header: &RtpHeader) {
     line.put_field("type", Some(header.payload_type));
     line.put_field("number", Some(header.sequence_number));
     line.put_field("time", Some(header.timestamp));
@@ -17,7 +17,7 @@ fn put_fields(line: &mut Line<'_>, header: &RtpHeader) {
     line.put_where(!header.has_extension, "bare ");
 }
 
-fn put_values(line: &mut Line<'_>, values: &ExtensionValues) {
+fn put_values(line: &mut CommandLine<'_>, values: &ExtensionValues) {
     line.put_field("audio-level", values.audio_level);
     line.put_field("voice", values.voice_activity);
     line.put_field("send-time", values.abs_send_time);
@@ -38,7 +38,7 @@ fn put_values(line: &mut Line<'_>, values: &ExtensionValues) {
 }
 
 /// `read-header HEX`: the header in front of a datagram, its length, and the payload behind it.
-pub(crate) fn header_text(line: &mut Line<'_>, map: &ExtensionMap) {
+pub(crate) fn header_text(line: &mut CommandLine<'_>, map: &ExtensionMap) {
     let datagram = line.bytes();
     let Some(header) = RtpHeader::parse(&datagram, map) else {
         return line.put("none");
@@ -50,7 +50,7 @@ pub(crate) fn header_text(line: &mut Line<'_>, map: &ExtensionMap) {
 }
 
 /// What is left of a payload without its padding.
-fn put_unpadded(line: &mut Line<'_>, has_padding: bool, payload: &[u8]) {
+fn put_unpadded(line: &mut CommandLine<'_>, has_padding: bool, payload: &[u8]) {
     match unpad_payload(has_padding, payload) {
         Some(rest) => line.put_bytes(rest),
         None => line.put("none"),
@@ -58,14 +58,14 @@ fn put_unpadded(line: &mut Line<'_>, has_padding: bool, payload: &[u8]) {
 }
 
 /// `padded HEX` or `unpadded HEX`: what is left of a payload without its padding.
-pub(crate) fn payload_text(line: &mut Line<'_>, has_padding: bool) {
+pub(crate) fn payload_text(line: &mut CommandLine<'_>, has_padding: bool) {
     let payload = line.bytes();
     put_unpadded(line, has_padding, &payload)
 }
 
 /// `run HEX ..`: what becomes of each datagram of a list at a new window, the number under which it is taken, or why
 /// it isn't.
-pub(crate) fn run_text(line: &mut Line<'_>, map: &ExtensionMap) {
+pub(crate) fn run_text(line: &mut CommandLine<'_>, map: &ExtensionMap) {
     let mut datagrams = Vec::new(line.alloc());
     for word in line.rest().split_whitespace() {
         let datagram = line.bytes_of(word);
@@ -81,7 +81,7 @@ pub(crate) fn run_text(line: &mut Line<'_>, map: &ExtensionMap) {
     }
 }
 
-fn put_verdicts(line: &mut Line<'_>, verdicts: &[Reception]) {
+fn put_verdicts(line: &mut CommandLine<'_>, verdicts: &[Reception]) {
     for verdict in verdicts {
         match verdict {
             Reception::Taken(number) => line.put(format_args!("{number} ")),

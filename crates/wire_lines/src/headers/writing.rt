@@ -1,13 +1,13 @@
 //! Headers that are written, and their extensions.
 
-use command_lines::{Line, part};
+use command_lines::{CommandLine, part};
 use rtp_wire::{
     AbsCaptureTime, Extension, ExtensionMap, ExtensionValues, Mid, Pt, Rid, RtpHeader, Ssrc,
     VideoOrientation,
 };
 
 /// `map NUMBER=NAME ..`: which number each header extension has from now on.
-pub(crate) fn set_map(line: &mut Line<'_>, map: &mut ExtensionMap) {
+pub(crate) fn set_map(line: &mut CommandLine<'_>, map: &mut ExtensionMap) {
     map.clear();
     for word in line.rest().split_whitespace() {
         let (id, name) = part(word, '=');
@@ -38,7 +38,7 @@ fn extension_of(name: &str) -> Option<Extension> {
 }
 
 /// `write-header type=33 number=47000 marker ..`: the bytes of the default header with the fields that words name.
-pub(crate) fn written(line: &mut Line<'_>, map: &ExtensionMap) {
+pub(crate) fn written(line: &mut CommandLine<'_>, map: &ExtensionMap) {
     let mut header = RtpHeader::default();
     for word in line.rest().split_whitespace() {
         set_field(line, &mut header, word);
@@ -55,7 +55,7 @@ pub(crate) fn written(line: &mut Line<'_>, map: &ExtensionMap) {
     }
 }
 
-fn set_field(line: &mut Line<'_>, header: &mut RtpHeader, word: &str) {
+fn set_field(line: &mut CommandLine<'_>, header: &mut RtpHeader, word: &str) {
     let (name, value) = part(word, '=');
     match name {
         "type" => header.payload_type = Pt::from(line.value::<u8>(value)),
@@ -77,7 +77,7 @@ fn set_field(line: &mut Line<'_>, header: &mut RtpHeader, word: &str) {
     }
 }
 
-fn set_value(line: &mut Line<'_>, values: &mut ExtensionValues, name: &str, value: &str) {
+fn set_value(line: &mut CommandLine<'_>, values: &mut ExtensionValues, name: &str, value: &str) {
     match name {
         "audio-level" => values.audio_level = Some(line.value(value)),
         "voice" => values.voice_activity = Some(line.value(value)),
@@ -98,7 +98,7 @@ fn set_value(line: &mut Line<'_>, values: &mut ExtensionValues, name: &str, valu
 }
 
 /// When a frame was captured, and behind it the offset of the capturing clock.
-fn set_time(line: &mut Line<'_>, values: &mut ExtensionValues, name: &str, value: &str) {
+fn set_time(line: &mut CommandLine<'_>, values: &mut ExtensionValues, name: &str, value: &str) {
     match name {
         "captured" => {
             values.abs_capture_time = Some(AbsCaptureTime {

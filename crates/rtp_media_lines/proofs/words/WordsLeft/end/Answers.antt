@@ -2,7 +2,7 @@ use Rattle.std.proofs.Common.{sym, ◌∙◌, ap}
 use Rattle.std.specs.Option.{option_copied}
 use Rattle.rtp_media_lines.specs.Words.{ended, words_in}
 use Rattle.rtp_media_lines.proofs.Splits.{ended-words_of}
-use Rattle.rtp_media_lines.proofs.words.Words.end.Goals as goal
+use Rattle.rtp_media_lines.proofs.words.WordsLeft.end.Goals as goal
 
 pub returns-in-Some-clause-value : goal.returns-in-Some-clause-value
 returns-in-Some-clause-value c =
