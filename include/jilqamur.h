@@ -33,7 +33,7 @@ extern "C" {
 #define JILQAMUR_MIN_HELD 4096
 #define JILQAMUR_MAX_HELD 16384
 
-/* What calls answer. */
+/* What calls return. */
 enum {
     JILQAMUR_OK = 0,         /* the call did what it says */
     JILQAMUR_MEMORY = 1,     /* memory ran out */
@@ -86,7 +86,19 @@ enum {
     JILQAMUR_AMR_WB_CORRUPTED = 46,       /* an AMR-WB packet or sample breaks its format (RFC 4867 4.3) */
     /* Why a datagram isn't repaired: */
     JILQAMUR_NO_REPAIR = 47,              /* the stream has no pair for repairs, or sends redundancy (RFC 4588 8.3) */
-    JILQAMUR_NOT_OWN = 48                 /* the datagram isn't one that the stream sent */
+    JILQAMUR_NOT_OWN = 48,                /* the datagram isn't one that the stream sent */
+    /* Why a text doesn't pass between a browser and an end: */
+    JILQAMUR_REST_UNREAD = 49,            /* a line fits nowhere, and what follows would be lost */
+    JILQAMUR_MID_NOT_KEPT = 50,           /* a section's name has more than 16 bytes, or not letters, digits and _ alone */
+    JILQAMUR_MID_TWICE = 51,              /* two sections have one name */
+    JILQAMUR_SECTION_REJECTED = 52,       /* the browser rejects a section: withdraw the offer, and make it without */
+    JILQAMUR_SEVERAL_BUNDLES = 53,        /* there are several bundles, and so several transports (RFC 9143) */
+    JILQAMUR_OUTSIDE_BUNDLE = 54,         /* a section is in no bundle, and so has a transport of its own */
+    JILQAMUR_NOTHING_LEFT = 55,           /* no section is left for the end */
+    JILQAMUR_KEYS_ALONE = 56,             /* a section has keys, and there is no fingerprint for it */
+    JILQAMUR_UFRAG_NOT_FIT = 57,          /* the name of ICE isn't 4 to 256 letters, digits, + and / (RFC 8839 5.4) */
+    JILQAMUR_PASSWORD_NOT_FIT = 58,       /* the password of ICE isn't 22 to 256 of them */
+    JILQAMUR_SETUP_NOT_FIT = 59           /* the part in the connection isn't one that may be said (RFC 8842 5.3) */
 };
 
 /* What an answer means, in words; never null. Those of JILQAMUR_DAMAGED name its first cause alone. */
@@ -142,6 +154,17 @@ static inline const char *jilqamur_error_text(uint32_t answer)
         "corrupted AMR-WB packet",
         "the stream has no pair for repairs",
         "the stream did not send this datagram",
+        "the text has a rest that can't be read",
+        "the name of a section can't be kept",
+        "two sections have one name",
+        "a section is rejected",
+        "there are several bundles",
+        "a section is outside of the bundle",
+        "no section is left",
+        "a section has keys and no fingerprint",
+        "the name of ICE doesn't fit",
+        "the password of ICE doesn't fit",
+        "the setup doesn't fit",
     };
     return answer < sizeof texts / sizeof texts[0] ? texts[answer] : "no such answer";
 }
@@ -232,7 +255,7 @@ typedef struct jilqamur_packetizer_params {
 
 /* A handle of a packetizer that goes by a codec's name, and of the packets that its last sample left. One whose bytes
  * are all 0 is closed; write no field of it after that. A copy of an open handle must not be used. What is opened must
- * be closed, or its memory is never freed. At a closed handle each call but jilqamur_packetizer_open answers
+ * be closed, or its memory is never freed. At a closed handle each call but jilqamur_packetizer_open returns
  * JILQAMUR_CLOSED, and changes nothing. */
 typedef struct jilqamur_packetizer {
     bool full;
@@ -270,7 +293,7 @@ uint32_t jilqamur_packetizer_packet(jilqamur_packetizer *packetizer, size_t inde
 
 /* A handle of a depacketizer that goes by a codec's name, behind a buffer that puts packets in order, and of the unit
  * that was popped last; kept like that of a packetizer. At a closed handle each call but jilqamur_depacketizer_open
- * answers JILQAMUR_CLOSED, and changes nothing. */
+ * returns JILQAMUR_CLOSED, and changes nothing. */
 typedef struct jilqamur_depacketizer {
     bool full;
     void *place;
@@ -311,7 +334,7 @@ uint32_t jilqamur_depacketizer_unit(jilqamur_depacketizer *depacketizer, uint8_t
 /* A handle of an end: what it offers, what it agreed on with the other end, its streams, and what calls left to be
  * fetched. One whose bytes are all 0 is closed; write no field of it after that. A copy of an open handle must not be
  * used. What is opened must be closed, or its memory is never freed. At a closed handle each call below but
- * jilqamur_end_open answers JILQAMUR_CLOSED, and changes nothing. */
+ * jilqamur_end_open returns JILQAMUR_CLOSED, and changes nothing. */
 typedef struct jilqamur_end {
     bool full;
     void *place;
@@ -357,8 +380,8 @@ uint32_t jilqamur_end_extension(jilqamur_end *end, uint8_t id, const uint8_t *ur
  * JILQAMUR_MEMORY, and the end stays. The draft is empty afterwards, refused or not. */
 uint32_t jilqamur_end_make(jilqamur_end *end, uint64_t session);
 
-/* Lets the SSRC repair send again what ssrc sends (RFC 4588 8.3), in the section that is put next. JILQAMUR_MEMORY, and
- * nothing has changed. */
+/* Lets the SSRC repair send again what ssrc sends (RFC 4588 8.3), in the section or wish that is put next.
+ * JILQAMUR_MEMORY, and nothing has changed. */
 uint32_t jilqamur_end_section_repair(jilqamur_end *end, uint32_t ssrc, uint32_t repair);
 
 /* Puts a section behind those of the next offer or answer: its name (RFC 5888; at most 16 bytes, each a letter, a digit
@@ -392,6 +415,77 @@ uint32_t jilqamur_end_withdraw(jilqamur_end *end);
  * bytes into needed, 0 before the first. JILQAMUR_TOO_SMALL, and the buffer is unchanged. The text stays until the next
  * offer or answer that is not refused, and has no 0 at its end. */
 uint32_t jilqamur_end_text(jilqamur_end *end, uint8_t *buffer, size_t len, size_t *needed);
+
+/* Puts a wish for the next section of a browser's offer behind those before: whether it is answered or rejected, and of
+ * one that is answered which way media shall flow as this end sees it, and the SSRCs that this end sends under, with
+ * the repairs that were put before it, which each wish uses up. A section without a wish is rejected. JILQAMUR_MEMORY, and
+ * nothing has changed. */
+uint32_t jilqamur_end_wish(jilqamur_end *end, bool is_accepted, bool sends, bool receives, const uint32_t *ssrcs,
+                           size_t count);
+
+/* Answers a browser's offer of len bytes by the wishes, which it uses up (RFC 8829 5.3.1): jilqamur_end_text fetches
+ * the text of the answer, which jilqamur_end_for_browser makes one for the browser. The end never sees sections of data, of
+ * port 0 or without a wish; what is taken out is remembered, and so is what the offer tells of the browser's transport.
+ * JILQAMUR_NOT_TEXT, JILQAMUR_NOT_MADE without an end; else the first that holds of JILQAMUR_TEXT_UNREADABLE,
+ * JILQAMUR_REST_UNREAD, JILQAMUR_MID_NOT_KEPT, JILQAMUR_MID_TWICE, JILQAMUR_SEVERAL_BUNDLES, JILQAMUR_OUTSIDE_BUNDLE,
+ * JILQAMUR_NOTHING_LEFT and JILQAMUR_KEYS_ALONE; else JILQAMUR_OUT_OF_RANGE as at jilqamur_end_offer, and what
+ * jilqamur_end_answer refuses; or JILQAMUR_MEMORY. End, text and what is remembered then stay. */
+uint32_t jilqamur_end_answer_browser(jilqamur_end *end, const uint8_t *offer, size_t len);
+
+/* Takes a browser's answer of len bytes to the pending offer, and remembers what it tells of the browser's transport.
+ * JILQAMUR_NOT_TEXT, JILQAMUR_NOT_MADE without an end; else the first that holds of JILQAMUR_TEXT_UNREADABLE,
+ * JILQAMUR_REST_UNREAD, JILQAMUR_MID_NOT_KEPT, JILQAMUR_MID_TWICE, JILQAMUR_NOT_CORRESPONDING,
+ * JILQAMUR_SECTION_REJECTED, JILQAMUR_SEVERAL_BUNDLES, JILQAMUR_OUTSIDE_BUNDLE, JILQAMUR_NOTHING_LEFT and
+ * JILQAMUR_KEYS_ALONE; else what jilqamur_end_accept refuses; or JILQAMUR_MEMORY. All then stays. */
+uint32_t jilqamur_end_accept_browser(jilqamur_end *end, const uint8_t *answer, size_t len);
+
+/* The part of an end in the connection (RFC 8842 5). */
+enum {
+    JILQAMUR_ACTPASS = 0, /* it is left open, as each offer does */
+    JILQAMUR_ACTIVE = 1,  /* it opens the connection */
+    JILQAMUR_PASSIVE = 2  /* it waits for it */
+};
+
+/* Makes an offer's or an answer's text of this end, of len bytes, one for a browser, which jilqamur_end_text fetches:
+ * what was taken out of the browser's offer is back in its place, rejected, and each other section has the lines of the
+ * transport, whose candidates come later (RFC 8840). setup is JILQAMUR_ACTPASS in an offer, and in an answer one of the
+ * others, as in each answer before; is_lite says that this end answers connectivity checks alone; ufrag and password
+ * are those of ICE (RFC 8839 5.4), hash and digest the fingerprint of the certificate, as sha-256 and its 32 bytes.
+ * JILQAMUR_NOT_TEXT, JILQAMUR_OUT_OF_RANGE for another setup; else the first that holds of JILQAMUR_TEXT_UNREADABLE,
+ * JILQAMUR_REST_UNREAD, JILQAMUR_UFRAG_NOT_FIT, JILQAMUR_PASSWORD_NOT_FIT, JILQAMUR_SETUP_NOT_FIT,
+ * JILQAMUR_NOT_CORRESPONDING and JILQAMUR_NOT_WRITABLE, or JILQAMUR_MEMORY, and nothing has changed. */
+uint32_t jilqamur_end_for_browser(jilqamur_end *end, const uint8_t *text, size_t len, uint8_t setup, bool is_lite,
+                                  const uint8_t *ufrag, size_t ufrag_len, const uint8_t *password, size_t password_len,
+                                  const uint8_t *hash, size_t hash_len, const uint8_t *digest, size_t digest_len);
+
+/* What a browser's last text tells of its transport, beside texts. */
+typedef struct jilqamur_remote {
+    bool has_setup;     /* whether it tells its part in the connection */
+    uint8_t setup;      /* it; 0 where it isn't told */
+    bool has_own_setup; /* whether the part of this end was answered before */
+    uint8_t own_setup;  /* it; 0 where it wasn't */
+    bool is_trickling;  /* whether further candidates may come later (RFC 8840 4.1) */
+    bool is_lite;       /* whether it answers connectivity checks alone (RFC 8839 5.3) */
+    size_t candidates;  /* how many candidates it tells */
+} jilqamur_remote;
+
+/* Tells it; without a browser's text nothing is told. */
+uint32_t jilqamur_end_remote(jilqamur_end *end, jilqamur_remote *remote);
+
+/* The texts of jilqamur_end_remote_text. */
+enum {
+    JILQAMUR_UFRAG = 0,      /* the name of ICE (RFC 8839 5.4) */
+    JILQAMUR_PASSWORD = 1,   /* its password */
+    JILQAMUR_FINGERPRINT = 2 /* the preferred fingerprint, as sha-256 and its bytes in hex with colons (RFC 8122 5) */
+};
+
+/* Copies such a text of the browser's transport to the front of a buffer of len bytes, and writes its length in bytes
+ * into needed. JILQAMUR_TOO_SMALL, and the buffer is unchanged; JILQAMUR_NOTHING where it isn't told, or
+ * JILQAMUR_MEMORY, and nothing has changed. */
+uint32_t jilqamur_end_remote_text(jilqamur_end *end, uint8_t text, uint8_t *buffer, size_t len, size_t *needed);
+
+/* The same of the browser's candidate of this place, counted from 0: candidate: and what follows (RFC 8839 5.1). */
+uint32_t jilqamur_end_remote_candidate(jilqamur_end *end, size_t index, uint8_t *buffer, size_t len, size_t *needed);
 
 /* What is told of an agreed section beside its name. */
 typedef struct jilqamur_section {
@@ -527,7 +621,7 @@ typedef struct jilqamur_sender_params {
 } jilqamur_sender_params;
 
 /* A handle of a sending stream that goes by a codec's name, without an end; kept like that of an end. At a closed
- * handle each call but jilqamur_sender_open answers JILQAMUR_CLOSED, and changes nothing. */
+ * handle each call but jilqamur_sender_open returns JILQAMUR_CLOSED, and changes nothing. */
 typedef struct jilqamur_sender {
     bool full;
     void *place;
@@ -559,7 +653,7 @@ uint32_t jilqamur_sender_push_sample(jilqamur_sender *sender, uint64_t ticks, co
 uint32_t jilqamur_sender_datagram(jilqamur_sender *sender, size_t index, uint8_t *buffer, size_t len, size_t *needed);
 
 /* A handle of a receiving stream that goes by a codec's name, without an end; kept like that of an end. At a closed
- * handle each call but jilqamur_receiver_open answers JILQAMUR_CLOSED, and changes nothing. */
+ * handle each call but jilqamur_receiver_open returns JILQAMUR_CLOSED, and changes nothing. */
 typedef struct jilqamur_receiver {
     bool full;
     void *place;

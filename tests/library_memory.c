@@ -149,7 +149,7 @@ static void streams(void)
 static void draft(jilqamur_end *end)
 {
     jilqamur_row opus = {.payload_type = 111, .clock_rate = 48000, .has_channels = true, .channels = 2};
-    jilqamur_row vp8 = {.payload_type = 96, .clock_rate = 90000};
+    jilqamur_row vp8 = {.payload_type = 96, .has_resend = true, .resend = 97, .clock_rate = 90000};
     ASK("row", jilqamur_end_row(end, &opus, JILQAMUR_TEXT("opus"), JILQAMUR_TEXT("minptime=10;useinbandfec=1")));
     ASK("row", jilqamur_end_row(end, &vp8, JILQAMUR_TEXT("VP8"), JILQAMUR_TEXT("")));
     ASK("extension", jilqamur_end_extension(end, 4, JILQAMUR_TEXT("urn:ietf:params:rtp-hdrext:sdes:mid")));
@@ -162,6 +162,7 @@ static void gather(jilqamur_end *end, uint32_t ssrc)
     bool was_cut = said->is_cut;
     said->is_cut = true;
     ASK("section", jilqamur_end_section(end, JILQAMUR_TEXT("0"), false, true, true, &ssrcs[0], 1));
+    ASK("section_repair", jilqamur_end_section_repair(end, ssrcs[1], ssrc + 100));
     ASK("section", jilqamur_end_section(end, JILQAMUR_TEXT("1"), true, true, true, &ssrcs[1], 1));
     said->is_cut = was_cut;
 }
@@ -217,6 +218,11 @@ static bool sends(jilqamur_end *end, size_t stream)
         must(jilqamur_end_datagram(end, k, bytes, sizeof bytes, &needed) == JILQAMUR_OK, "no datagram");
         say_bytes(bytes, needed);
     }
+    if (stream == 1) {
+        ASK("repair", jilqamur_end_repair(end, stream, bytes, needed));
+        must(jilqamur_end_datagram(end, 0, bytes, sizeof bytes, &needed) == JILQAMUR_OK, "no repair");
+        say_bytes(bytes, needed);
+    }
     return true;
 }
 
@@ -264,6 +270,81 @@ static void ends(void)
     say("%u %u %u\n", jilqamur_end_close(&a), jilqamur_end_close(&b), jilqamur_end_close(&c));
 }
 
+/* A wish for a section both ways. Nothing of it is told, since it may be asked twice. */
+static void wish(jilqamur_end *end)
+{
+    const uint32_t ssrc = 54;
+    bool was_cut = said->is_cut;
+    said->is_cut = true;
+    ASK("wish", jilqamur_end_wish(end, true, true, true, &ssrc, 1));
+    said->is_cut = was_cut;
+}
+
+/* The audio section that an end offers a browser. */
+static void offer_audio(jilqamur_end *end)
+{
+    const uint32_t ssrc = 44;
+    bool was_cut = said->is_cut;
+    said->is_cut = true;
+    ASK("section", jilqamur_end_section(end, JILQAMUR_TEXT("0"), false, true, true, &ssrc, 1));
+    said->is_cut = was_cut;
+}
+
+/* Makes a text of an end one for a browser. */
+static size_t dress(jilqamur_end *end, uint8_t *text, uint8_t setup)
+{
+    const uint8_t digest[] = {1, 2, 3};
+    size_t len = 0;
+    say("text: %u\n", jilqamur_end_text(end, text, MOST_TEXT, &len));
+    ASK("for_browser", jilqamur_end_for_browser(end, text, len, setup, false, JILQAMUR_TEXT("abcd"),
+                                                JILQAMUR_TEXT("0123456789abcdefghijkl"), JILQAMUR_TEXT("sha-256"),
+                                                digest, sizeof digest));
+    say("text: %u\n", jilqamur_end_text(end, text, MOST_TEXT, &len));
+    say("%.*s", (int)len, (const char *)text);
+    return len;
+}
+
+/* What an end is told of the other one's transport. */
+static void told(jilqamur_end *end)
+{
+    jilqamur_remote remote;
+    uint8_t bytes[128];
+    size_t needed = 0;
+    say("remote: %u\n", jilqamur_end_remote(end, &remote));
+    say("%u %u %zu\n", remote.setup, remote.own_setup, remote.candidates);
+    for (uint8_t part = JILQAMUR_UFRAG; part <= JILQAMUR_FINGERPRINT; part++) {
+        ASK("remote_text", jilqamur_end_remote_text(end, part, bytes, sizeof bytes, &needed));
+        say_bytes(bytes, needed);
+    }
+    ASK("remote_candidate", jilqamur_end_remote_candidate(end, 0, bytes, sizeof bytes, &needed));
+    say_bytes(bytes, needed);
+}
+
+/* Two ends that take each other for browsers. */
+static void browsers(void)
+{
+    static uint8_t text[MOST_TEXT];
+    static const char candidate[] = "a=candidate:1 1 udp 1 127.0.0.1 9 typ host\r\n";
+    jilqamur_end a = JILQAMUR_END_CLOSED, b = JILQAMUR_END_CLOSED;
+    ASK("open", jilqamur_end_open(&a));
+    ASK("open", jilqamur_end_open(&b));
+    draft(&a);
+    ASK_AFTER("make", draft_again(&a), jilqamur_end_make(&a, 1));
+    draft(&b);
+    ASK_AFTER("make", draft_again(&b), jilqamur_end_make(&b, 2));
+    offer_audio(&a);
+    ASK_AFTER("offer", offer_audio(&a), jilqamur_end_offer(&a));
+    size_t len = dress(&a, text, JILQAMUR_ACTPASS);
+    must(len + sizeof candidate < sizeof text, "too long an offer");
+    memcpy(text + len, candidate, sizeof candidate - 1);
+    wish(&b);
+    ASK_AFTER("answer_browser", wish(&b), jilqamur_end_answer_browser(&b, text, len + sizeof candidate - 1));
+    told(&b);
+    len = dress(&b, text, JILQAMUR_PASSIVE);
+    ASK("accept_browser", jilqamur_end_accept_browser(&a, text, len));
+    say("%u %u\n", jilqamur_end_close(&a), jilqamur_end_close(&b));
+}
+
 static const uint8_t obus[] = {0x12, 0, 0x32, 3, 0xaa, 0xbb, 0xcc};
 
 /* All of it; `part` says which, so that a stream that failed cuts off nothing else. */
@@ -278,6 +359,9 @@ static void sequence(int part)
         break;
     case 1:
         streams();
+        break;
+    case 2:
+        browsers();
         break;
     default:
         ends();
@@ -327,7 +411,7 @@ static long try_each(int part)
 int main(void)
 {
     long all = 0;
-    for (int part = 0; part < 3; part++)
+    for (int part = 0; part < 4; part++)
         all += try_each(part);
     printf("%ld allocations, each refused in turn\n", all);
     return 0;

@@ -106,7 +106,7 @@ static void agree(jilqamur_end *a, jilqamur_end *b)
          "ends that don't agree");
 }
 
-/* Hands a datagram to the end and polls it; answers whether a unit came. */
+/* Hands a datagram to the end and polls it; returns whether a unit came. */
 static bool at_end(jilqamur_end *b, const uint8_t *datagram, size_t len, long *taken)
 {
     size_t stream = 0, needed = 0;

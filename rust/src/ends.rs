@@ -75,7 +75,7 @@ impl End {
         done(unsafe { sys::jilqamur_end_make(&mut self.0, session) })
     }
 
-    /// Opens a sending stream of this SSRC for the agreed row of a payload type, and answers its number. `distances`
+    /// Opens a sending stream of this SSRC for the agreed row of a payload type, and returns its number. `distances`
     /// are how many payloads back redundancy reaches: rising, 1 to 8, for a row with a RED type.
     ///
     /// # Errors

@@ -56,6 +56,28 @@ pub enum EndError {
     NoRepair,
     /// The datagram isn't one that the stream sent.
     NotOwn,
+    /// A line of a browser's text fits nowhere, and what follows would be lost.
+    RestUnread,
+    /// A section's name has more than 16 bytes, or other signs than ASCII letters, digits and `_`.
+    MidNotKept,
+    /// Two sections have one name.
+    MidTwice,
+    /// The browser rejects a section: the offer is to be withdrawn, and made without it.
+    SectionRejected,
+    /// There are several bundles, and so several transports (RFC 9143).
+    SeveralBundles,
+    /// A section is in no bundle, and so has a transport of its own.
+    OutsideBundle,
+    /// No section is left for the end.
+    NothingLeft,
+    /// A section has keys, and there is no fingerprint for it.
+    KeysAlone,
+    /// The name of ICE isn't 4 to 256 letters, digits, `+` and `/` (RFC 8839 5.4).
+    UfragNotFit,
+    /// The password of ICE isn't 22 to 256 of them.
+    PasswordNotFit,
+    /// The part in the connection isn't one that may be said (RFC 8842 5.3).
+    SetupNotFit,
 }
 
 impl EndError {
@@ -67,14 +89,17 @@ impl EndError {
             NoCommonRow, NoSection, RowNotAgreed, RowDiffers, WrongDirection, SsrcNotNamed, AlreadyOpen, StreamFailed,
             TimeTooLarge, LimitTooSmall, Payload,
         ];
-        const FROM_REPAIRS: [EndError; 2] = [NoRepair, NotOwn];
+        const FROM_REPAIRS: [EndError; 13] = [
+            NoRepair, NotOwn, RestUnread, MidNotKept, MidTwice, SectionRejected, SeveralBundles, OutsideBundle,
+            NothingLeft, KeysAlone, UfragNotFit, PasswordNotFit, SetupNotFit,
+        ];
         match answer {
             1 => Memory,
             10 => OutOfRange,
             11 => NotMade,
             14 => NoStream,
             15..=33 => FROM_ROWS[answer as usize - 15],
-            47..=48 => FROM_REPAIRS[answer as usize - 47],
+            47..=59 => FROM_REPAIRS[answer as usize - 47],
             other => unreachable!("the library answers {other}"),
         }
     }
@@ -109,6 +134,17 @@ impl fmt::Display for EndError {
             Payload => "the payload is refused",
             NoRepair => "the stream has no pair for repairs",
             NotOwn => "the stream did not send this datagram",
+            RestUnread => "the text has a rest that can't be read",
+            MidNotKept => "the name of a section can't be kept",
+            MidTwice => "two sections have one name",
+            SectionRejected => "a section is rejected",
+            SeveralBundles => "there are several bundles",
+            OutsideBundle => "a section is outside of the bundle",
+            NothingLeft => "no section is left",
+            KeysAlone => "a section has keys and no fingerprint",
+            UfragNotFit => "the name of ICE doesn't fit",
+            PasswordNotFit => "the password of ICE doesn't fit",
+            SetupNotFit => "the setup doesn't fit",
         })
     }
 }

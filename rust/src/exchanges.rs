@@ -22,16 +22,8 @@ impl End {
 
     fn gather(&mut self, sections: &[Section<'_>]) -> Result<(), EndError> {
         for section in sections {
-            let (sends, receives) = match section.direction {
-                Direction::SendOnly => (true, false),
-                Direction::RecvOnly => (false, true),
-                Direction::SendRecv => (true, true),
-                Direction::Inactive => (false, false),
-            };
-            for &(ssrc, repair) in section.repairs {
-                // SAFETY: the handle is open.
-                done(unsafe { sys::jilqamur_end_section_repair(&mut self.0, ssrc, repair) })?;
-            }
+            let (sends, receives) = section.direction.flow();
+            self.repairs(section.repairs)?;
             // SAFETY: the handle is open, and pointers and lengths are those of one slice each.
             done(unsafe {
                 sys::jilqamur_end_section(
@@ -49,7 +41,15 @@ impl End {
         Ok(())
     }
 
-    fn text(&mut self) -> String {
+    pub(crate) fn repairs(&mut self, repairs: &[(u32, u32)]) -> Result<(), EndError> {
+        for &(ssrc, repair) in repairs {
+            // SAFETY: the handle is open.
+            done(unsafe { sys::jilqamur_end_section_repair(&mut self.0, ssrc, repair) })?;
+        }
+        Ok(())
+    }
+
+    pub(crate) fn text(&mut self) -> String {
         let text = fetched(|buffer, len, needed| {
             // SAFETY: the handle is open, and pointer and length are those of one slice.
             unsafe { sys::jilqamur_end_text(&mut self.0, buffer, len, needed) }

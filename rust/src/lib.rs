@@ -8,6 +8,7 @@
 
 use std::{fmt, ptr};
 
+mod browsers;
 mod ends;
 mod error;
 mod exchanges;
@@ -17,6 +18,7 @@ mod streams;
 mod sys;
 mod values;
 
+pub use browsers::{Remote, Setup, Transport, Wish};
 pub use ends::{Datagrams, End};
 pub use error::EndError;
 pub use params::{
@@ -106,7 +108,7 @@ impl Header {
         Ok((header, &datagram[header.header_len..]))
     }
 
-    /// Writes the header in front of a buffer, and answers its length in bytes.
+    /// Writes the header in front of a buffer, and returns its length in bytes.
     ///
     /// # Errors
     /// `Unwritable` or `TooSmall`; the buffer is unchanged.
@@ -158,7 +160,7 @@ impl Window {
         if answer == 0 { Ok(Window(window)) } else { Err(Error::Memory) }
     }
 
-    /// Takes a datagram in, and answers its widened number, which is recorded. The payload and the SSRC are not
+    /// Takes a datagram in, and returns its widened number, which is recorded. The payload and the SSRC are not
     /// looked at.
     ///
     /// # Errors

@@ -96,6 +96,18 @@ pub enum Direction {
     Inactive,
 }
 
+impl Direction {
+    /// Whether it sends, and whether it receives.
+    pub(crate) fn flow(self) -> (bool, bool) {
+        match self {
+            Direction::SendOnly => (true, false),
+            Direction::RecvOnly => (false, true),
+            Direction::SendRecv => (true, true),
+            Direction::Inactive => (false, false),
+        }
+    }
+}
+
 /// A section as an end wants it.
 #[derive(Clone, Copy, Debug)]
 pub struct Section<'a> {

@@ -164,7 +164,7 @@ impl Receiver {
     }
 
     /// Takes a packet in, by the low bits of its number, its timestamp, its marker and its payload without padding, and
-    /// answers its widened number; None where that came before, or is 1,024 or more below the greatest.
+    /// returns its widened number; None where that came before, or is 1,024 or more below the greatest.
     ///
     /// # Errors
     /// `Memory`; nothing has changed.

@@ -28,6 +28,19 @@ pub(crate) struct AgreedParts {
     pub(crate) ssrcs: usize,
 }
 
+/// What a browser's last text tells of its transport, beside texts.
+#[repr(C)]
+#[derive(Default)]
+pub(crate) struct RemoteParts {
+    pub(crate) has_setup: bool,
+    pub(crate) setup: u8,
+    pub(crate) has_own_setup: bool,
+    pub(crate) own_setup: u8,
+    pub(crate) is_trickling: bool,
+    pub(crate) is_lite: bool,
+    pub(crate) candidates: usize,
+}
+
 #[repr(C)]
 #[derive(Default)]
 pub(crate) struct Unit {
@@ -172,6 +185,46 @@ extern "C" {
     pub(crate) fn jilqamur_end_accept(end: *mut Handle, answer: *const u8, len: usize) -> u32;
     pub(crate) fn jilqamur_end_withdraw(end: *mut Handle) -> u32;
     pub(crate) fn jilqamur_end_text(end: *mut Handle, buffer: *mut u8, len: usize, needed: *mut usize) -> u32;
+    pub(crate) fn jilqamur_end_wish(
+        end: *mut Handle,
+        is_accepted: bool,
+        sends: bool,
+        receives: bool,
+        ssrcs: *const u32,
+        count: usize,
+    ) -> u32;
+    pub(crate) fn jilqamur_end_answer_browser(end: *mut Handle, offer: *const u8, len: usize) -> u32;
+    pub(crate) fn jilqamur_end_accept_browser(end: *mut Handle, answer: *const u8, len: usize) -> u32;
+    pub(crate) fn jilqamur_end_for_browser(
+        end: *mut Handle,
+        text: *const u8,
+        len: usize,
+        setup: u8,
+        is_lite: bool,
+        ufrag: *const u8,
+        ufrag_len: usize,
+        password: *const u8,
+        password_len: usize,
+        hash: *const u8,
+        hash_len: usize,
+        digest: *const u8,
+        digest_len: usize,
+    ) -> u32;
+    pub(crate) fn jilqamur_end_remote(end: *mut Handle, remote: *mut RemoteParts) -> u32;
+    pub(crate) fn jilqamur_end_remote_text(
+        end: *mut Handle,
+        text: u8,
+        buffer: *mut u8,
+        len: usize,
+        needed: *mut usize,
+    ) -> u32;
+    pub(crate) fn jilqamur_end_remote_candidate(
+        end: *mut Handle,
+        index: usize,
+        buffer: *mut u8,
+        len: usize,
+        needed: *mut usize,
+    ) -> u32;
     pub(crate) fn jilqamur_end_agreed_section(
         end: *mut Handle,
         index: usize,

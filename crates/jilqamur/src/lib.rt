@@ -15,6 +15,7 @@ ghost use Rattle.jilqamur_media.specs.Windows.{ReceivedAs, behind, fresh};
 ghost use Rattle.jilqamur_media.specs.Handles.{answer_of};
 
 mod agreed;
+mod browsers;
 mod depacketizers;
 mod exchanging;
 mod packetizers;

@@ -1,1 +1,2 @@
 pub mod AsBox
+pub mod Bare

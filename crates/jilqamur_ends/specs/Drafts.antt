@@ -8,24 +8,27 @@ use Rattle.rtp_wire.specs.Elements.{Numbering}
 use Rattle.rtp_wire.specs.Kinds.{extension_of}
 use Rattle.rtp_wire.specs.Maps.{empty_map}
 use Rattle.rtp_wire.specs.Name.{name_of}
+use Rattle.rtp_media_browsers.specs.declared.wish.Wish.{Wish}
 use Rattle.rtp_media_sections.specs.Answered.{flow}
 use Rattle.rtp_media_sections.specs.Rows.{Row}
 use Rattle.rtp_media_sections.specs.Sections.{Wanted}
 use Rattle.jilqamur_media.specs.Codes.{ok, not_text, out_of_range}
 
--- The rows and the map of the next end, the sections of the next offer or answer, and the pairs of an SSRC and that of
--- its repairs of the next section.
+-- The rows and the map of the next end, the sections of the next offer or answer, the wishes for those of a browser's
+-- offer, and the pairs of an SSRC and that of its repairs of the next section or wish.
 pub record DraftState : Type 0 where
   pub rows : List Row
   pub exts : Numbering
   pub sections : List Wanted
+  pub wishes : List Wish
   pub repairs : List (ℕ × ℕ)
 
 -- One without any.
 abbrev pub empty_draft : DraftState
-empty_draft = record { rows = []; exts = empty_map; sections = []; repairs = [] }
+empty_draft = record { rows = []; exts = empty_map; sections = []; wishes = []; repairs = [] }
 
--- One with a row more, with these rows more, with a pair more, and with a section more, which uses the pairs up.
+-- One with a row more, with these rows more, with a pair more, and with a section or a wish more, which uses the pairs
+-- up.
 abbrev pub with_row : DraftState → Row → DraftState
 with_row d row = record d { rows = d.rows ++ row ∷ [] }
 
@@ -38,13 +41,19 @@ with_repair d ssrc repair = record d { repairs = d.repairs ++ (ssrc, repair) ∷
 abbrev pub with_section : DraftState → Wanted → DraftState
 with_section d section = record d { sections = d.sections ++ section ∷ []; repairs = [] }
 
+abbrev pub with_wish : DraftState → Wish → DraftState
+with_wish d wish = record d { wishes = d.wishes ++ wish ∷ []; repairs = [] }
+
 -- One that gives a header extension this number.
 abbrev pub with_extension : DraftState → ℕ → List ℕ → DraftState
 with_extension d id uri = record d { exts = slice_set d.exts (id - 1) (Some (extension_of uri)) }
 
--- One whose sections are used up, and one whose rows and map are.
+-- One whose sections are used up, one whose wishes are, and one whose rows and map are.
 abbrev pub without_sections : DraftState → DraftState
 without_sections d = record d { sections = [] }
+
+abbrev pub without_wishes : DraftState → DraftState
+without_wishes d = record d { wishes = [] }
 
 abbrev pub without_media : DraftState → DraftState
 without_media d = record d { rows = []; exts = empty_map }

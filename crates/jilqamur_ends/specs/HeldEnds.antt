@@ -1,21 +1,35 @@
-use Rattle.std.specs.Prelude.{ℕ, List, [], Option, None}
+use Rattle.std.specs.Prelude.{ℕ, List, [], false, Option, None}
+use Rattle.rtp_media_browsers.specs.Remotes.{silent}
+use Rattle.rtp_media_browsers.specs.declared.plan.Plan.{Plan}
 use Rattle.rtp_media_schedules.specs.Hearing.{MediaUnit}
 use Rattle.rtp_media_ends.specs.Ends.{EndState}
-use Rattle.jilqamur_ends.specs.Drafts.{DraftState, empty_draft, without_sections}
+use Rattle.jilqamur_ends.specs.Drafts.{DraftState, empty_draft, without_sections, without_wishes}
 
--- What a handle of an end holds: the end, once it is made; the draft of the next end, offer or answer; and what calls
--- left to be fetched.
+-- What a handle of an end holds: the end, once it is made; what is remembered of a browser's texts; the draft of the
+-- next end, offer or answer; and what calls left to be fetched.
 pub record HeldEndState : Type 0 where
   pub end : Option EndState
+  pub plan : Plan
   pub draft : DraftState
   pub text : List ℕ
   pub datagrams : List (List ℕ)
   pub unit : Option MediaUnit
 
+-- Nothing is remembered of a browser.
+abbrev pub new_plan : Plan
+new_plan = record {
+  places = [];
+  allows_mixed = false;
+  remote = silent;
+  setup = None;
+  is_answering = false;
+}
+
 -- One that is empty.
 abbrev pub empty_held_end : HeldEndState
 empty_held_end = record {
   end = None;
+  plan = new_plan;
   draft = empty_draft;
   text = [];
   datagrams = [];
@@ -26,13 +40,23 @@ empty_held_end = record {
 abbrev pub with_draft : HeldEndState → DraftState → HeldEndState
 with_draft p draft = record p { draft = draft }
 
--- What calls leave: the end alone changes; or the sections are used up, and a text is left; or datagrams are left, or
--- a unit.
+-- What calls leave: the end alone changes; or the sections are used up, and a text is left; or the wishes are, and a
+-- browser is remembered; or datagrams are left, or a unit.
 abbrev pub behind_end : HeldEndState → Option EndState → HeldEndState
 behind_end p end = record p { end = end }
 
 abbrev pub behind_text : HeldEndState → Option EndState → List ℕ → HeldEndState
 behind_text p end text = record p { end = end; draft = without_sections p.draft; text = text }
+
+abbrev pub behind_offer : HeldEndState → Option EndState → Plan → List ℕ → HeldEndState
+behind_offer p end plan text =
+    record p { end = end; plan = plan; draft = without_wishes p.draft; text = text }
+
+abbrev pub behind_answer : HeldEndState → Option EndState → Plan → HeldEndState
+behind_answer p end plan = record p { end = end; plan = plan }
+
+abbrev pub behind_dressing : HeldEndState → Plan → List ℕ → HeldEndState
+behind_dressing p plan text = record p { plan = plan; text = text }
 
 abbrev pub behind_sample : HeldEndState → Option EndState → List (List ℕ) → HeldEndState
 behind_sample p end datagrams = record p { end = end; datagrams = datagrams }

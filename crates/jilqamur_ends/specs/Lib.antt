@@ -1,7 +1,9 @@
 pub mod Agreed
 pub mod Answers
+pub mod Browsers
 pub mod DraftedRows
 pub mod Drafts
+pub mod Dressing
 pub mod Exchanges
 pub mod HeldEnds
 pub mod Lending
@@ -10,5 +12,7 @@ pub mod Owned
 pub mod Params
 pub mod Receiving
 pub mod Refusals
+pub mod Remotes
 pub mod Sending
 pub mod Told
+pub mod Wishes

@@ -7,7 +7,7 @@ use Rattle.rtp_media_ends.specs.Refusals.{refusal_of_new}
 use Rattle.rtp_media_ends.specs.Ends.{new_end}
 use Rattle.jilqamur_media.specs.Codes.{ok, memory, row_not_plain, types_not_distinct, not_writable}
 use Rattle.jilqamur_ends.specs.Drafts.{without_media}
-use Rattle.jilqamur_ends.specs.HeldEnds.{HeldEndState, with_draft}
+use Rattle.jilqamur_ends.specs.HeldEnds.{HeldEndState, new_plan, with_draft}
 
 -- The number of a refusal to make an end.
 abbrev pub end_code : EndError → ℕ
@@ -28,7 +28,9 @@ make_outcome p = end_outcome (refusal_of_new p.draft.rows p.draft.exts)
 abbrev pub without_draft : HeldEndState → HeldEndState
 without_draft p = with_draft p (without_media p.draft)
 
--- The end of a draft, which is emptied.
+-- The end of a draft, which is emptied; nothing is remembered of a browser.
 abbrev pub made : HeldEndState → ℕ → HeldEndState
-made p session = record (without_draft p)
-    { end = Some (new_end (bare_session session) p.draft.exts (record { rows = p.draft.rows; distances = [] })) }
+made p session = record (without_draft p) {
+  end = Some (new_end (bare_session session) p.draft.exts (record { rows = p.draft.rows; distances = [] }));
+  plan = new_plan;
+}

@@ -1,5 +1,5 @@
 //! What an end agreed on.
-//! Each call answers `CLOSED` at a closed handle, and changes nothing then.
+//! Each call returns `CLOSED` at a closed handle, and changes nothing then.
 
 ghost use Rattle.std.specs.Prelude.{◌≡◌};
 ghost use Rattle.std.specs.Option.{option_copied};

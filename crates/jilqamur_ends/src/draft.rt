@@ -8,22 +8,26 @@ ghost use Rattle.jilqamur_ends.specs.DraftedRows.{row_of, row_outcome};
 ghost use Rattle.jilqamur_ends.specs.Drafts.{empty_draft, with_repair, with_row, with_rows, with_section};
 ghost use Rattle.jilqamur_ends.specs.Drafts.{with_extension};
 ghost use Rattle.jilqamur_ends.specs.Drafts.{kind_of, section_of, section_outcome, extension_outcome};
+ghost use Rattle.jilqamur_ends.specs.Wishes.{HasWish, IsWish};
+ghost use Rattle.rtp_media_sections.specs.Answered.{flow};
 
 use crate::row::{WireRow, row_of};
 use jilqamur_media::{codes, text_in};
 use payload_core_base::MediaKind;
+use rtp_media_browsers::Wish;
 use rtp_media_sections::{CodecConfig, PayloadParams, SectionSpec, flow};
-use rtp_wire::{Extension, ExtensionMap, Frequency, Mid, Ssrc};
+use rtp_wire::{Direction, Extension, ExtensionMap, Frequency, Mid, Ssrc};
 use std::alloc::{AllocError, Global};
 use std::marker::Model;
 use std::mem;
 
-/// The rows and the map of header extensions of the next end, the sections of the next offer or answer, and the pairs
-/// of an SSRC and that of its repairs of the next section.
+/// The rows and the map of header extensions of the next end, the sections of the next offer or answer, the wishes for
+/// those of a browser's offer, and the pairs of an SSRC and that of its repairs of the next section or wish.
 pub struct Draft {
     rows: Vec<PayloadParams>,
     exts: ExtensionMap,
     sections: Vec<SectionSpec>,
+    wishes: Vec<Wish>,
     repairs: Vec<(Ssrc, Ssrc)>,
 }
 
@@ -34,6 +38,7 @@ impl Drop for Draft {
             rows: _rows,
             exts: _exts,
             sections: _sections,
+            wishes: _wishes,
             repairs: _repairs,
         } = self;
     }
@@ -52,6 +57,7 @@ impl Model for Draft {
       rows = d.rows.items;
       exts = d.exts;
       sections = d.sections.items;
+      wishes = d.wishes.items;
       repairs = d.repairs.items;
     } };
 }
@@ -72,6 +78,25 @@ fn ssrcs_of(alloc: Global, ssrcs: &[u32]) -> Result<Vec<Ssrc>, AllocError>
     ssrcs.iter().map(|ssrc| Ssrc::from(*ssrc)).collect(alloc)
 }
 
+/// The wish for a section, or that it be rejected.
+fn wish_of(
+    is_accepted: bool,
+    direction: Direction,
+    ssrcs: Vec<Ssrc>,
+    repairs: Vec<(Ssrc, Ssrc)>,
+) -> Wish
+    ensures { IsWish is_accepted direction ssrcs.items repairs.items result }
+{
+    if !is_accepted {
+        return Wish::Reject;
+    }
+    Wish::Accept {
+        direction,
+        ssrcs,
+        repairs,
+    }
+}
+
 impl Draft {
     /// One without rows, header extensions and sections.
     pub fn empty(alloc: Global) -> Self
@@ -81,12 +106,13 @@ impl Draft {
             rows: Vec::new(alloc),
             exts: ExtensionMap::empty(),
             sections: Vec::new(alloc),
+            wishes: Vec::new(alloc),
             repairs: Vec::new(alloc),
         }
     }
 
     /// Puts a row behind those of the draft, of a codec by its name and of the parameters of an `a=fmtp` line, and
-    /// answers `OK`; or `OUT_OF_RANGE` for a clock rate of 0, else `NOT_TEXT`, or `MEMORY`, and nothing has changed.
+    /// returns `OK`; or `OUT_OF_RANGE` for a clock rate of 0, else `NOT_TEXT`, or `MEMORY`, and nothing has changed.
     pub fn add_row(&mut self, row: &WireRow, codec: &[u8], format: &[u8]) -> u32
         ensures outcome { result ≢ memory → result ≡ row_outcome row.now codec.now format.now }
         ensures added { result ≡ ok → self.new ≡ with_row self.old (row_of row.now codec.now format.now) }
@@ -108,7 +134,7 @@ impl Draft {
     }
 
     /// Puts the default rows of Opus, VP8, H.264, H.265, VP9 and AV1 behind those of the draft, in this order, and
-    /// answers `OK`; or `MEMORY`, and nothing has changed.
+    /// returns `OK`; or `MEMORY`, and nothing has changed.
     pub fn add_default_rows(&mut self, alloc: Global) -> u32
         ensures outcome { result ≢ memory → result ≡ ok }
         ensures added { result ≡ ok → self.new ≡ with_rows self.old default_rows }
@@ -123,7 +149,7 @@ impl Draft {
         }
     }
 
-    /// Gives a header extension a number in the draft's map, in place of one that has it, and answers `OK`; or
+    /// Gives a header extension a number in the draft's map, in place of one that has it, and returns `OK`; or
     /// `OUT_OF_RANGE` for a number outside 1 to 16, else `NOT_TEXT`, or `MEMORY`, and nothing has changed.
     pub fn set_extension(&mut self, alloc: Global, id: u8, uri: &[u8]) -> u32
         ensures outcome { result ≢ memory → result ≡ extension_outcome id uri.now }
@@ -145,8 +171,8 @@ impl Draft {
         }
     }
 
-    /// Lets an SSRC repair another one in the next section (RFC 4588 8.3), and answers `OK`; or `MEMORY`, and nothing
-    /// has changed.
+    /// Lets an SSRC repair another one in the next section or wish (RFC 4588 8.3), and returns `OK`; or `MEMORY`, and
+    /// nothing has changed.
     pub fn add_repair(&mut self, ssrc: u32, repair: u32) -> u32
         ensures outcome { result ≢ memory → result ≡ ok }
         ensures added { result ≡ ok → self.new ≡ with_repair self.old ssrc repair }
@@ -166,7 +192,7 @@ impl Draft {
     }
 
     /// Puts a section behind those of the next offer or answer, with the repairs that are there, which are used up, and
-    /// answers `OK`; or `NOT_TEXT`, or `MEMORY`, and nothing has changed.
+    /// returns `OK`; or `NOT_TEXT`, or `MEMORY`, and nothing has changed.
     pub fn add_section(
         &mut self,
         alloc: Global,
@@ -203,7 +229,42 @@ impl Draft {
         }
     }
 
-    /// The rows, as a config, and the map of header extensions, which are used up; the sections stay.
+    /// Puts a wish behind those for the sections of the next browser's offer, with the repairs that are there, which
+    /// are used up, and returns `OK`; or `MEMORY`, and nothing has changed.
+    pub fn add_wish(
+        &mut self,
+        alloc: Global,
+        is_accepted: bool,
+        sends: bool,
+        receives: bool,
+        ssrcs: &[u32],
+    ) -> u32
+        ensures outcome { result ≢ memory → result ≡ ok }
+        ensures added { result ≡ ok → HasWish self.old is_accepted (flow sends receives) ssrcs.now self.new }
+        ensures unchanged { result ≢ ok → self.new ≡ self.old }
+    {
+        let (Ok(ssrcs), Ok(repairs)) = (ssrcs_of(alloc, ssrcs), self.repairs()) else {
+            return codes::MEMORY;
+        };
+        let wish = wish_of(is_accepted, flow(sends, receives), ssrcs, repairs);
+        match self.wishes.push(wish) {
+            Ok(()) => {
+                self.repairs = Vec::new(alloc);
+                codes::OK
+            }
+            Err(_) => codes::MEMORY,
+        }
+    }
+
+    /// The wishes, which are used up; all else stays.
+    pub fn take_wishes(&mut self, alloc: Global) -> Vec<Wish>
+        ensures wishes { result.items ≡ self.old.wishes }
+        ensures rest { self.new ≡ record self.old { wishes = [] } }
+    {
+        mem::replace(&mut self.wishes, Vec::new(alloc))
+    }
+
+    /// The rows, as a config, and the map of header extensions, which are used up; sections and wishes stay.
     pub fn take_media(&mut self, alloc: Global) -> (CodecConfig, ExtensionMap)
         ensures config { result.0 ≡ record { rows = self.old.rows; distances = [] } }
         ensures exts { result.1 ≡ self.old.exts }
@@ -214,7 +275,7 @@ impl Draft {
         (CodecConfig::new_from_payload_params(rows), exts)
     }
 
-    /// The sections, which are used up; rows and map stay.
+    /// The sections, which are used up; all else stays.
     pub fn take_sections(&mut self, alloc: Global) -> Vec<SectionSpec>
         ensures sections { result.items ≡ self.old.sections }
         ensures rest { self.new ≡ record self.old { sections = [] } }

@@ -1,5 +1,5 @@
 //! What an end is made of, gathered call by call.
-//! Each call answers `CLOSED` at a closed handle, and changes nothing then.
+//! Each call returns `CLOSED` at a closed handle, and changes nothing then.
 
 ghost use Rattle.std.specs.Prelude.{◌≡◌, ◌≢◌};
 ghost use Rattle.sdp_formats_rows.specs.DefaultRows.{default_rows};
@@ -16,7 +16,7 @@ use jilqamur_media::codes;
 use std::alloc::Global;
 
 /// Puts a row behind those of the draft, of a codec by its name and of the parameters of an `a=fmtp` line, and
-/// answers `OK`; or `OUT_OF_RANGE` for a clock rate of 0, else `NOT_TEXT`, or `MEMORY`, and nothing has changed.
+/// returns `OK`; or `OUT_OF_RANGE` for a clock rate of 0, else `NOT_TEXT`, or `MEMORY`, and nothing has changed.
 pub fn add_row(end: &mut EndHandle, row: &WireRow, codec: &[u8], format: &[u8]) -> u32
     ensures outcome { AtObject end.old.place.object end.new.place.object result
         (λ p after. result ≢ memory → result ≡ row_outcome row.now codec.now format.now) }
@@ -33,7 +33,7 @@ pub fn add_row(end: &mut EndHandle, row: &WireRow, codec: &[u8], format: &[u8]) 
 }
 
 /// Puts the default rows of Opus, VP8, H.264, H.265, VP9 and AV1 behind those of the draft, in this order, and
-/// answers `OK`; or `MEMORY`, and nothing has changed.
+/// returns `OK`; or `MEMORY`, and nothing has changed.
 pub fn add_default_rows(alloc: Global, end: &mut EndHandle) -> u32
     ensures outcome { AtObject end.old.place.object end.new.place.object result
         (λ p after. result ≢ memory → result ≡ ok) }
@@ -48,7 +48,7 @@ pub fn add_default_rows(alloc: Global, end: &mut EndHandle) -> u32
     held.draft.add_default_rows(alloc)
 }
 
-/// Gives a header extension a number in the draft's map, in place of one that has it, and answers `OK`; or
+/// Gives a header extension a number in the draft's map, in place of one that has it, and returns `OK`; or
 /// `OUT_OF_RANGE` for a number outside 1 to 16, else `NOT_TEXT`, or `MEMORY`, and nothing has changed.
 pub fn set_extension(alloc: Global, end: &mut EndHandle, id: u8, uri: &[u8]) -> u32
     ensures outcome { AtObject end.old.place.object end.new.place.object result
@@ -64,8 +64,8 @@ pub fn set_extension(alloc: Global, end: &mut EndHandle, id: u8, uri: &[u8]) -> 
     held.draft.set_extension(alloc, id, uri)
 }
 
-/// Lets an SSRC repair another one in the next section (RFC 4588 8.3), and answers `OK`; or `MEMORY`, and nothing has
-/// changed.
+/// Lets an SSRC repair another one in the next section or wish (RFC 4588 8.3), and returns `OK`; or `MEMORY`, and
+/// nothing has changed.
 pub fn add_repair(end: &mut EndHandle, ssrc: u32, repair: u32) -> u32
     ensures outcome { AtObject end.old.place.object end.new.place.object result
         (λ p after. result ≢ memory → result ≡ ok) }
@@ -81,7 +81,7 @@ pub fn add_repair(end: &mut EndHandle, ssrc: u32, repair: u32) -> u32
 }
 
 /// Puts a section behind those of the next offer or answer, with the repairs that are there, which are used up, and
-/// answers `OK`; or `NOT_TEXT`, or `MEMORY`, and nothing has changed.
+/// returns `OK`; or `NOT_TEXT`, or `MEMORY`, and nothing has changed.
 pub fn add_section(
     alloc: Global,
     end: &mut EndHandle,

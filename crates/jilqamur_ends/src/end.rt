@@ -11,7 +11,7 @@ use jilqamur_media::codes;
 use std::alloc::Global;
 
 impl EndHandle {
-    /// Holds no end, an empty draft and nothing that is left, and answers `OK`; or `IN_USE` where it is open, or
+    /// Holds no end, an empty draft and nothing that is left, and returns `OK`; or `IN_USE` where it is open, or
     /// `MEMORY`, and is unchanged.
     pub fn open(&mut self, alloc: Global) -> u32
         ensures opened { result ≡ ok → self.new.place.object ≡ Some empty_held_end }
@@ -33,7 +33,7 @@ impl EndHandle {
         }
     }
 
-    /// Frees what it holds, and answers `OK`, or `CLOSED` where it is closed; it is closed from now on.
+    /// Frees what it holds, and returns `OK`, or `CLOSED` where it is closed; it is closed from now on.
     pub fn close(&mut self, alloc: Global) -> u32
         ensures held { result ≡ answer_of self.old.place.object }
         ensures empty { self.new.place.object ≡ None }

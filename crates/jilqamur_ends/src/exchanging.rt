@@ -1,5 +1,5 @@
 //! Texts of offers and answers.
-//! Each call answers `CLOSED` at a closed handle, and changes nothing then.
+//! Each call returns `CLOSED` at a closed handle, and changes nothing then.
 
 ghost use Rattle.std.specs.Prelude.{◌≡◌, ◌≢◌};
 ghost use Rattle.jilqamur_media.specs.Codes.{ok};
@@ -16,7 +16,7 @@ use rtp_media_sections::are_sound;
 use std::alloc::Global;
 
 /// The number of a refused exchange.
-fn exchange_code(error: &ExchangeError) -> u32
+pub(crate) fn exchange_code(error: &ExchangeError) -> u32
     ensures { result ≡ exchange_code error.now }
 {
     match error {
@@ -31,7 +31,7 @@ fn exchange_code(error: &ExchangeError) -> u32
     }
 }
 
-/// Offers the gathered sections, which are used up, and answers `OK`: the text is left to be fetched. `NOT_MADE`
+/// Offers the gathered sections, which are used up, and returns `OK`: the text is left to be fetched. `NOT_MADE`
 /// without an end, `OUT_OF_RANGE` where the repairs of one don't fit its SSRCs; else the first that holds of
 /// `OUT_OF_TURN`, `NOT_CORRESPONDING`, `NO_COMMON_ROW` and `NOT_WRITABLE`, or `MEMORY`, and end and text stay.
 pub fn offer(alloc: Global, end: &mut EndHandle) -> u32
@@ -63,7 +63,7 @@ pub fn offer(alloc: Global, end: &mut EndHandle) -> u32
     }
 }
 
-/// Answers an offer by the gathered sections, which are used up, and answers `OK`: the text is left to be fetched.
+/// Answers an offer by the gathered sections, which are used up, and returns `OK`: the text is left to be fetched.
 /// `NOT_TEXT` for bytes that aren't UTF-8, `NOT_MADE` without an end, `OUT_OF_RANGE` where the repairs of a section
 /// don't fit its SSRCs; else the first that holds of `TEXT_UNREADABLE`, `OUT_OF_TURN`, `NOT_MEDIA`,
 /// `NOT_CORRESPONDING`, `ROUND`, `NO_COMMON_ROW` and `NOT_WRITABLE`, or `MEMORY`, and end and text stay.
@@ -99,7 +99,7 @@ pub fn answer(alloc: Global, end: &mut EndHandle, offer: &[u8]) -> u32
     }
 }
 
-/// Takes the answer to the pending offer, and answers `OK`. `NOT_TEXT` for bytes that aren't UTF-8, `NOT_MADE`
+/// Takes the answer to the pending offer, and returns `OK`. `NOT_TEXT` for bytes that aren't UTF-8, `NOT_MADE`
 /// without an end; else the first that holds of `TEXT_UNREADABLE`, `OUT_OF_TURN`, `NOT_MEDIA`,
 /// `NOT_CORRESPONDING`, `ROUND` and `NO_COMMON_ROW`, or `MEMORY`, and the end stays.
 pub fn accept(end: &mut EndHandle, answer: &[u8]) -> u32
@@ -125,7 +125,7 @@ pub fn accept(end: &mut EndHandle, answer: &[u8]) -> u32
     }
 }
 
-/// Gives a pending offer up, and answers `OK`; `NOTHING` where none is pending, `NOT_MADE` without an end.
+/// Gives a pending offer up, and returns `OK`; `NOTHING` where none is pending, `NOT_MADE` without an end.
 pub fn withdraw(end: &mut EndHandle) -> u32
     ensures answer { AtObject end.old.place.object end.new.place.object result
         (λ p after. AtEnd p.end after.end result (λ e now. AnswersWithdraw e result now)) }

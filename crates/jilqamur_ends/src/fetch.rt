@@ -1,5 +1,5 @@
 //! What calls left, fetched into a caller's buffer.
-//! Each call answers `CLOSED` at a closed handle, and changes nothing then.
+//! Each call returns `CLOSED` at a closed handle, and changes nothing then.
 
 ghost use Rattle.std.specs.Prelude.{◌≡◌};
 ghost use Rattle.std.specs.List.{slice_get};
@@ -13,7 +13,7 @@ use crate::place::EndHandle;
 use jilqamur_media::{WireUnit, WireValues, codes, copy_out, datagram_at, unit_at};
 
 impl EndHandle {
-    /// Copies the text that the last offer or answer left, and answers `OK`, or `TOO_SMALL`, and the buffer is
+    /// Copies the text that the last offer or answer left, and returns `OK`, or `TOO_SMALL`, and the buffer is
     /// unchanged; `needed` is its length in bytes, 0 before the first.
     pub fn text(&mut self, buffer: &mut [u8], needed: &mut usize) -> u32
         ensures text { AtObject self.old.place.object self.new.place.object result
@@ -28,7 +28,7 @@ impl EndHandle {
         copy_out(&held.text, buffer, needed)
     }
 
-    /// Copies the datagram of this place, counted from 0, that the last sample left, and answers `OK`, or `TOO_SMALL`,
+    /// Copies the datagram of this place, counted from 0, that the last sample left, and returns `OK`, or `TOO_SMALL`,
     /// and the buffer is unchanged; `needed` is its length in bytes. `NOTHING` where there is none of that place.
     pub fn datagram(&mut self, index: usize, buffer: &mut [u8], needed: &mut usize) -> u32
         ensures datagram { AtObject self.old.place.object self.new.place.object result
@@ -44,7 +44,7 @@ impl EndHandle {
         datagram_at(&held.datagrams, index, buffer, needed)
     }
 
-    /// Copies the bytes of the unit that a poll left last, and answers `OK`, or `TOO_SMALL`, and the buffer is
+    /// Copies the bytes of the unit that a poll left last, and returns `OK`, or `TOO_SMALL`, and the buffer is
     /// unchanged; `needed` is their count, and `told` what is told beside. `NOTHING` before the first unit.
     pub fn unit(&mut self, buffer: &mut [u8], needed: &mut usize, told: &mut WireUnit) -> u32
         ensures bytes { AtObject self.old.place.object self.new.place.object result
@@ -63,7 +63,7 @@ impl EndHandle {
         unit_at(&held.unit, buffer, needed, told)
     }
 
-    /// Tells the values of the header extensions of the last datagram of the unit that a poll left last, and answers
+    /// Tells the values of the header extensions of the last datagram of the unit that a poll left last, and returns
     /// `OK`; `NOTHING` before the first unit, and `told` is unchanged.
     pub fn values(&mut self, told: &mut WireValues) -> u32
         ensures values { AtObject self.old.place.object self.new.place.object result

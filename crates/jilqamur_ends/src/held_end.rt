@@ -4,6 +4,7 @@ ghost use Rattle.std.specs.Prelude.{◌≡◌};
 ghost use Rattle.jilqamur_ends.specs.HeldEnds.{empty_held_end};
 
 use crate::draft::Draft;
+use rtp_media_browsers::Plan;
 use rtp_media_ends::{Datagram, End, Unit};
 use std::alloc::Global;
 use std::marker::Model;
@@ -13,6 +14,8 @@ use std::marker::Model;
 pub struct HeldEnd {
     /// The end, once it is made.
     pub end: Option<End>,
+    /// What is remembered of a browser's texts.
+    pub plan: Plan,
     /// What the next end is made of, and what the next offer or answer has.
     pub draft: Draft,
     /// The text that the last offer or answer left.
@@ -34,6 +37,7 @@ impl Model for HeldEnd {
 
     ghost view = { λ p. record {
       end = p.end;
+      plan = p.plan;
       draft = p.draft;
       text = p.text.items;
       datagrams = p.datagrams.items;
@@ -48,6 +52,7 @@ impl HeldEnd {
     {
         HeldEnd {
             end: None,
+            plan: Plan::new(alloc),
             draft: Draft::empty(alloc),
             text: Vec::new(alloc),
             datagrams: Vec::new(alloc),

@@ -1,5 +1,5 @@
 //! Ends made of drafts.
-//! Each call answers `CLOSED` at a closed handle, and changes nothing then.
+//! Each call returns `CLOSED` at a closed handle, and changes nothing then.
 
 ghost use Rattle.std.specs.Prelude.{◌≡◌, ◌≢◌};
 ghost use Rattle.jilqamur_media.specs.Codes.{ok, memory};
@@ -8,6 +8,7 @@ ghost use Rattle.jilqamur_ends.specs.Making.{end_code, make_outcome, made, witho
 
 use crate::place::EndHandle;
 use jilqamur_media::codes;
+use rtp_media_browsers::Plan;
 use rtp_media_ends::{End, EndError, Session};
 use rtp_wire::SessionId;
 use std::alloc::Global;
@@ -24,7 +25,7 @@ fn end_code(error: EndError) -> u32
     }
 }
 
-/// Makes a new end of the draft, under this session number, in place of an end that was made, and answers `OK`; or
+/// Makes a new end of the draft, under this session number, in place of an end that was made, and returns `OK`; or
 /// the first that holds of `ROW_NOT_PLAIN`, `TYPES_NOT_DISTINCT` and `NOT_WRITABLE`, or `MEMORY`, and the
 /// end stays. The draft is then empty, refused or not.
 #[tactic(auto, using(rtp_media_ends::proofs::BareSession::refused_bare))]
@@ -45,6 +46,7 @@ pub fn make(alloc: Global, end: &mut EndHandle, session: u64) -> u32
     match End::new(alloc, config, session, exts) {
         Ok(made) => {
             held.end = Some(made);
+            held.plan = Plan::new(alloc);
             codes::OK
         }
         Err(error) => end_code(error),

@@ -1,5 +1,5 @@
 //! Receiving streams: datagrams that come, and units that are ready.
-//! Each call answers `CLOSED` at a closed handle, and changes nothing then.
+//! Each call returns `CLOSED` at a closed handle, and changes nothing then.
 
 ghost use Rattle.std.specs.Prelude.{◌≡◌, ◌≢◌};
 ghost use Rattle.rtp_media_schedules.specs.Hearing.{holding_of};
@@ -16,7 +16,7 @@ use jilqamur_media::{codes, poll_code, text_in};
 use rtp_media_ends::{End, Received, may_hold};
 use rtp_wire::{Mid, Pt, Ssrc};
 
-/// Writes the number of the stream that took a datagram and its widened sequence number, and answers the verdict's.
+/// Writes the number of the stream that took a datagram and its widened sequence number, and returns the verdict's.
 fn verdict_code(verdict: Received, stream: &mut usize, number: &mut u64) -> u32
     ensures code { result ≡ verdict_code verdict }
     ensures taken { IsTakenAs verdict stream.new number.new }
@@ -68,7 +68,7 @@ fn open_with(
 }
 
 /// Opens a receiving stream of this SSRC for the agreed row of a payload type, writes its number, counted from 0
-/// over the streams of both directions, and answers `OK`. `NOT_TEXT` for a name that isn't UTF-8, `NOT_MADE`
+/// over the streams of both directions, and returns `OK`. `NOT_TEXT` for a name that isn't UTF-8, `NOT_MADE`
 /// without an end, `OUT_OF_RANGE` for a number of packets that may not be held; else the first that holds of
 /// `NO_SECTION`, `ROW_NOT_AGREED`, `ROW_DIFFERS`, `WRONG_DIRECTION`, `SSRC_NOT_NAMED` and `ALREADY_OPEN`, or
 /// `MEMORY`, and nothing has changed.
@@ -101,7 +101,7 @@ pub fn open_receiver(
     open_with(end, mid, ssrc, pt, hold_back, held, stream)
 }
 
-/// Takes a datagram in, and answers `OK` where a stream took it: `stream` is its number and `number` the widened
+/// Takes a datagram in, and returns `OK` where a stream took it: `stream` is its number and `number` the widened
 /// sequence number. `NOT_MADE` without an end; else the first that holds of `UNREADABLE`, `FOREIGN`, `DAMAGED`
 /// and `REFUSED`, or `MEMORY`, and the end is unchanged.
 pub fn receive(end: &mut EndHandle, datagram: &[u8], stream: &mut usize, number: &mut u64) -> u32
@@ -126,7 +126,7 @@ pub fn receive(end: &mut EndHandle, datagram: &[u8], stream: &mut usize, number:
     }
 }
 
-/// Polls a receiving stream, and answers `OK` where a unit is ready, which is left to be fetched. `NOT_MADE`
+/// Polls a receiving stream, and returns `OK` where a unit is ready, which is left to be fetched. `NOT_MADE`
 /// without an end, `NO_STREAM` where no receiving stream has the number, `NOTHING` where no unit is ready,
 /// `PAYLOAD` where a packet of the next frame is refused, which is then done with, or `MEMORY`, and the frame
 /// stays; the unit that was left stays then.

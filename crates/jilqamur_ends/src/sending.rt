@@ -1,5 +1,5 @@
 //! Sending streams: samples that become datagrams.
-//! Each call answers `CLOSED` at a closed handle, and changes nothing then.
+//! Each call returns `CLOSED` at a closed handle, and changes nothing then.
 
 ghost use Rattle.std.specs.Prelude.{◌≡◌, ◌≢◌, ◌∷◌, [], length, IfOk};
 ghost use Rattle.jilqamur_media.specs.Codes.{ok, memory, closed};
@@ -52,7 +52,7 @@ fn open_with(
 }
 
 /// Opens a sending stream of this SSRC for the agreed row of a payload type, writes its number, counted from 0
-/// over the streams of both directions, and answers `OK`. `NOT_TEXT` for a name that isn't UTF-8, `NOT_MADE` without
+/// over the streams of both directions, and returns `OK`. `NOT_TEXT` for a name that isn't UTF-8, `NOT_MADE` without
 /// an end, `OUT_OF_RANGE` for parameters that aren't sound for the row's RED type; else the first that holds of
 /// `NO_SECTION`, `ROW_NOT_AGREED`, `ROW_DIFFERS`, `WRONG_DIRECTION`, `SSRC_NOT_NAMED` and `ALREADY_OPEN`, or
 /// `MEMORY`. Nothing has changed then.
@@ -91,7 +91,7 @@ pub fn open_sender(
     open_with(end, mid, ssrc, pt, params, stream)
 }
 
-/// Sends a sample under a time in ticks of the row's clock, and answers `OK`: its datagrams, at most `mtu` bytes
+/// Sends a sample under a time in ticks of the row's clock, and returns `OK`: its datagrams, at most `mtu` bytes
 /// of it in each, are left to be fetched in place of those before, and `count` is how many there are. They carry
 /// the values that are given, and the section's name where one is, each if the stream's map has a number for it
 /// (RFC 8285, RFC 9143 15). `NOT_TEXT` for a name that isn't UTF-8, `NOT_MADE` without an end, `NO_STREAM` where
@@ -163,7 +163,7 @@ fn one(alloc: Global, datagram: Datagram) -> Result<Vec<Datagram>, AllocError>
     Ok(all)
 }
 
-/// Sends a datagram again that a sending stream sent (RFC 4588 4), and answers `OK`: its repair is left to be fetched
+/// Sends a datagram again that a sending stream sent (RFC 4588 4), and returns `OK`: its repair is left to be fetched
 /// as the only datagram. `NOT_MADE` without an end, `NO_STREAM` where no sending stream has the number; else the first
 /// that holds of `NO_REPAIR`, `NOT_OWN` and `LIMIT_TOO_SMALL`, or `MEMORY`, and the end is unchanged.
 pub fn repair(alloc: Global, end: &mut EndHandle, stream: usize, datagram: &[u8]) -> u32

@@ -147,3 +147,36 @@ no_repair = 47
 
 abbrev pub not_own : ℕ
 not_own = 48
+
+abbrev pub rest_unread : ℕ
+rest_unread = 49
+
+abbrev pub mid_not_kept : ℕ
+mid_not_kept = 50
+
+abbrev pub mid_twice : ℕ
+mid_twice = 51
+
+abbrev pub section_rejected : ℕ
+section_rejected = 52
+
+abbrev pub several_bundles : ℕ
+several_bundles = 53
+
+abbrev pub outside_bundle : ℕ
+outside_bundle = 54
+
+abbrev pub nothing_left : ℕ
+nothing_left = 55
+
+abbrev pub keys_alone : ℕ
+keys_alone = 56
+
+abbrev pub ufrag_not_fit : ℕ
+ufrag_not_fit = 57
+
+abbrev pub password_not_fit : ℕ
+password_not_fit = 58
+
+abbrev pub setup_not_fit : ℕ
+setup_not_fit = 59

@@ -1,4 +1,4 @@
-//! What samples and polls answer, as numbers.
+//! What samples and polls return, as numbers.
 
 ghost use Rattle.std.specs.Prelude.{◌≡◌};
 ghost use Rattle.jilqamur_media.specs.StreamAnswers.{sample_code, poll_code, unit_behind};
@@ -19,7 +19,7 @@ pub fn sample_code(error: SampleError) -> u32
     }
 }
 
-/// Keeps the unit of a poll, where there is one, and answers the poll's number.
+/// Keeps the unit of a poll, where there is one, and returns the poll's number.
 pub fn poll_code(answer: Result<Option<Unit>, PollFault>, unit: &mut Option<Unit>) -> u32
     ensures code { result ≡ poll_code answer }
     ensures unit { unit.new ≡ unit_behind answer unit.old }

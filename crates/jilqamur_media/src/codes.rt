@@ -1,4 +1,4 @@
-//! What calls answer, as numbers.
+//! What calls return, as numbers.
 
 /// The call did what it says.
 pub const OK: u32 = 0;
@@ -98,3 +98,25 @@ pub const AMR_WB_CORRUPTED: u32 = 46;
 pub const NO_REPAIR: u32 = 47;
 /// The datagram isn't one that the stream sent.
 pub const NOT_OWN: u32 = 48;
+/// Lines of a browser's text fit nowhere, and what follows would be lost.
+pub const REST_UNREAD: u32 = 49;
+/// The name of a section isn't kept: it has more than 16 bytes, or other signs than ASCII letters, digits and `_`.
+pub const MID_NOT_KEPT: u32 = 50;
+/// Two sections have one name.
+pub const MID_TWICE: u32 = 51;
+/// The browser rejects a section of the end's offer.
+pub const SECTION_REJECTED: u32 = 52;
+/// There are several bundles, and so several transports (RFC 9143).
+pub const SEVERAL_BUNDLES: u32 = 53;
+/// A section is in no bundle, and so has a transport of its own (RFC 9143).
+pub const OUTSIDE_BUNDLE: u32 = 54;
+/// No section is left for the end.
+pub const NOTHING_LEFT: u32 = 55;
+/// A section has keys, and there is no fingerprint for it.
+pub const KEYS_ALONE: u32 = 56;
+/// The name of ICE isn't 4 to 256 letters, digits, `+` and `/` (RFC 8839 5.4).
+pub const UFRAG_NOT_FIT: u32 = 57;
+/// The password of ICE isn't 22 to 256 letters, digits, `+` and `/` (RFC 8839 5.4).
+pub const PASSWORD_NOT_FIT: u32 = 58;
+/// The part in the connection isn't one that may be said there (RFC 8842 5.3).
+pub const SETUP_NOT_FIT: u32 = 59;

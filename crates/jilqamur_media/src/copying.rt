@@ -6,7 +6,7 @@ ghost use Rattle.jilqamur_media.specs.Copies.{IsCopied};
 
 use crate::codes;
 
-/// Copies bytes to the front of a buffer, and answers `OK`, or `TOO_SMALL`, and the buffer is unchanged; `needed` is
+/// Copies bytes to the front of a buffer, and returns `OK`, or `TOO_SMALL`, and the buffer is unchanged; `needed` is
 /// their count.
 pub fn copy_out(bytes: &[u8], buffer: &mut [u8], needed: &mut usize) -> u32
     ensures { IsCopied bytes.now buffer.old result needed.new buffer.new }

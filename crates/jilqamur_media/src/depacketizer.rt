@@ -1,5 +1,5 @@
 //! Handles of depacketizers: opened, fed with packets, and closed.
-//! Each call answers `CLOSED` at a closed handle, and changes nothing then.
+//! Each call returns `CLOSED` at a closed handle, and changes nothing then.
 
 ghost use Rattle.std.specs.Prelude.{◌≡◌, ◌≢◌, None, Some, IsSome};
 ghost use Rattle.rtp_media_schedules.specs.Hearing.{holding_of};
@@ -17,7 +17,7 @@ use crate::payload_unit::WireUnit;
 use std::alloc::Global;
 
 impl DepacketizerHandle {
-    /// Holds a depacketizer that took nothing, and answers `OK`; or `IN_USE` where it holds one already,
+    /// Holds a depacketizer that took nothing, and returns `OK`; or `IN_USE` where it holds one already,
     /// `OUT_OF_RANGE` where `held` isn't 4,096 to 16,384, why the format is none, or `MEMORY`, and is unchanged.
     pub fn open(
         &mut self,
@@ -53,7 +53,7 @@ impl DepacketizerHandle {
         }
     }
 
-    /// Frees the depacketizer, and answers `OK`, or `CLOSED` where it holds none; it holds nothing from now on.
+    /// Frees the depacketizer, and returns `OK`, or `CLOSED` where it holds none; it holds nothing from now on.
     pub fn close(&mut self, alloc: Global) -> u32
         ensures held { result ≡ answer_of self.old.place.object }
         ensures empty { self.new.place.object ≡ None }
@@ -64,7 +64,7 @@ impl DepacketizerHandle {
         }
     }
 
-    /// Takes a packet in, by its widened number, its RTP time, marker and payload, and answers `OK`, or `MEMORY`, and
+    /// Takes a packet in, by its widened number, its RTP time, marker and payload, and returns `OK`, or `MEMORY`, and
     /// nothing has changed. A number that is held, or at or below that of the last unit, is passed over; of more
     /// packets than may wait the lowest goes.
     pub fn push(
@@ -89,7 +89,7 @@ impl DepacketizerHandle {
         code
     }
 
-    /// Answers `OK` where a unit is due, which is left to be fetched. `NOTHING` where none is, the number of why a
+    /// Returns `OK` where a unit is due, which is left to be fetched. `NOTHING` where none is, the number of why a
     /// packet of the next frame is refused, which is then done with, or `MEMORY`, and the frame stays.
     pub fn pop(&mut self, alloc: Global) -> u32
         ensures answer { AtObject self.old.place.object self.new.place.object result
@@ -120,7 +120,7 @@ impl DepacketizerHandle {
         code
     }
 
-    /// Copies the bytes of the unit that was popped last, and answers `OK`, or `TOO_SMALL`, and the buffer is
+    /// Copies the bytes of the unit that was popped last, and returns `OK`, or `TOO_SMALL`, and the buffer is
     /// unchanged; `needed` is their count, and `told` what is told beside. `NOTHING` before the first unit.
     pub fn unit(
         &mut self,

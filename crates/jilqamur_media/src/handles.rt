@@ -17,7 +17,7 @@ use crate::sender_place::SenderHandle;
 use std::alloc::Global;
 
 impl SenderHandle {
-    /// Holds a stream that sent nothing, and answers `OK`; or `IN_USE` where it is open, why the parameters make none,
+    /// Holds a stream that sent nothing, and returns `OK`; or `IN_USE` where it is open, why the parameters make none,
     /// or `MEMORY`, and is unchanged.
     pub fn open(
         &mut self,
@@ -51,7 +51,7 @@ impl SenderHandle {
         }
     }
 
-    /// Frees the stream, and answers `OK`, or `CLOSED` where it is closed; it is closed from now on.
+    /// Frees the stream, and returns `OK`, or `CLOSED` where it is closed; it is closed from now on.
     pub fn close(&mut self, alloc: Global) -> u32
         ensures held { result ≡ answer_of self.old.place.object }
         ensures empty { self.new.place.object ≡ None }
@@ -64,7 +64,7 @@ impl SenderHandle {
 }
 
 impl ReceiverHandle {
-    /// Holds a stream that took nothing, and answers `OK`; or `IN_USE` where it is open, `OUT_OF_RANGE` where `held`
+    /// Holds a stream that took nothing, and returns `OK`; or `IN_USE` where it is open, `OUT_OF_RANGE` where `held`
     /// isn't 4,096 to 16,384, why the format is none, or `MEMORY`, and is unchanged.
     pub fn open(
         &mut self,
@@ -100,7 +100,7 @@ impl ReceiverHandle {
         }
     }
 
-    /// Frees the stream, and answers `OK`, or `CLOSED` where it is closed; it is closed from now on.
+    /// Frees the stream, and returns `OK`, or `CLOSED` where it is closed; it is closed from now on.
     pub fn close(&mut self, alloc: Global) -> u32
         ensures held { result ≡ answer_of self.old.place.object }
         ensures empty { self.new.place.object ≡ None }

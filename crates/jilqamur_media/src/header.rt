@@ -84,7 +84,7 @@ fn header_of(header: &WireHeader) -> RtpHeader
     }
 }
 
-/// Writes the header in front of the buffer, and answers `OK`; the bytes behind it stay. `UNWRITABLE` where the
+/// Writes the header in front of the buffer, and returns `OK`; the bytes behind it stay. `UNWRITABLE` where the
 /// payload type is above 127 or there are more than 15 sources, else `TOO_SMALL` where the buffer is shorter than
 /// the header; the buffer is then unchanged. `needed` is the header's length, but for `UNWRITABLE`, which leaves it.
 pub fn write_header(header: &WireHeader, buffer: &mut [u8], needed: &mut usize) -> u32

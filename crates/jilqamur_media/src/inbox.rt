@@ -75,7 +75,7 @@ impl Inbox {
     }
 
     /// Takes a packet in, by the low 16 bits of its number, its time, marker and payload, which may be empty, and
-    /// answers `OK`: `number` is its widened number, which is recorded. `REFUSED` where that came before, or is
+    /// returns `OK`: `number` is its widened number, which is recorded. `REFUSED` where that came before, or is
     /// 1,024 or more below the greatest, or `MEMORY`, and nothing has changed.
     pub fn push(
         &mut self,
@@ -106,7 +106,7 @@ impl Inbox {
         }
     }
 
-    /// Answers `OK` where a unit is ready, which is left to be fetched. `NOTHING` where none is, `PAYLOAD` where a
+    /// Returns `OK` where a unit is ready, which is left to be fetched. `NOTHING` where none is, `PAYLOAD` where a
     /// packet of the next frame is refused, which is then done with, or `MEMORY`, and the frame stays.
     pub fn poll(&mut self) -> u32
         ensures answer { Polls self.old result self.new }
@@ -125,7 +125,7 @@ impl Inbox {
         poll_code(answer, &mut self.unit)
     }
 
-    /// Copies the bytes of the unit that a poll left last, and answers `OK`, or `TOO_SMALL`, and the buffer is
+    /// Copies the bytes of the unit that a poll left last, and returns `OK`, or `TOO_SMALL`, and the buffer is
     /// unchanged; `needed` is their count, and `told` what is told beside. `NOTHING` before the first unit.
     pub fn unit(&self, buffer: &mut [u8], needed: &mut usize, told: &mut WireUnit) -> u32
         ensures bytes { IsFetched (bytes_of self.now.unit) buffer.old result needed.new buffer.new }

@@ -107,7 +107,7 @@ impl Outbox {
         })
     }
 
-    /// Sends a sample under a time in ticks of the stream's clock, and answers `OK`: its datagrams are left to be
+    /// Sends a sample under a time in ticks of the stream's clock, and returns `OK`: its datagrams are left to be
     /// fetched in place of those before, and `count` is how many there are. Else the first that holds of
     /// `STREAM_FAILED`, `TIME_TOO_LARGE`, `LIMIT_TOO_SMALL` and `PAYLOAD`, and nothing has changed; or `MEMORY`, and
     /// the stream sends no more.
@@ -130,7 +130,7 @@ impl Outbox {
         code
     }
 
-    /// Copies the datagram of this place, counted from 0, that the last sample left, and answers `OK`, or `TOO_SMALL`,
+    /// Copies the datagram of this place, counted from 0, that the last sample left, and returns `OK`, or `TOO_SMALL`,
     /// and the buffer is unchanged; `needed` is its length in bytes. `NOTHING` where there is none of that place.
     pub fn datagram(&self, index: usize, buffer: &mut [u8], needed: &mut usize) -> u32
         ensures bytes { IsFetched (slice_get self.now.datagrams index) buffer.old result needed.new buffer.new }

@@ -51,7 +51,7 @@ impl Model for PacketInbox {
         ≡ format_of p.format };
 }
 
-/// Keeps the unit of a pop, where there is one, and answers the pop's number.
+/// Keeps the unit of a pop, where there is one, and returns the pop's number.
 fn pop_code(
     popped: Result<Option<Depacketized>, PacketError>,
     unit: &mut Option<PayloadUnit>,
@@ -104,7 +104,7 @@ impl PacketInbox {
         })
     }
 
-    /// Takes a packet in, by its widened number, its RTP time, marker and payload, and answers `OK`, or `MEMORY`, and
+    /// Takes a packet in, by its widened number, its RTP time, marker and payload, and returns `OK`, or `MEMORY`, and
     /// nothing has changed. A number that is held, or at or below that of the last unit, is passed over; of more
     /// packets than may wait the lowest goes.
     pub fn push(&mut self, number: u64, time: u32, marker: bool, payload: &[u8]) -> u32
@@ -124,7 +124,7 @@ impl PacketInbox {
         }
     }
 
-    /// Answers `OK` where a unit is due, which is left to be fetched. `NOTHING` where none is, the number of why a
+    /// Returns `OK` where a unit is due, which is left to be fetched. `NOTHING` where none is, the number of why a
     /// packet of the next frame is refused, which is then done with, or `MEMORY`, and the frame stays.
     pub fn pop(&mut self) -> u32
         ensures answer { PopsAt self.old.holding.hold_back self.old result self.new }
@@ -143,7 +143,7 @@ impl PacketInbox {
         pop_code(popped, &mut self.unit)
     }
 
-    /// Copies the bytes of the unit that was popped last, and answers `OK`, or `TOO_SMALL`, and the buffer is
+    /// Copies the bytes of the unit that was popped last, and returns `OK`, or `TOO_SMALL`, and the buffer is
     /// unchanged; `needed` is their count, and `told` what is told beside. `NOTHING` before the first unit.
     pub fn unit(&self, buffer: &mut [u8], needed: &mut usize, told: &mut WireUnit) -> u32
         ensures bytes { IsFetched (bytes_of self.now.unit) buffer.old result needed.new buffer.new }

@@ -141,7 +141,7 @@ impl PacketOutbox {
         }
     }
 
-    /// Cuts a sample into packets of at most `mtu` bytes, and answers `OK`: they are left to be fetched in place of
+    /// Cuts a sample into packets of at most `mtu` bytes, and returns `OK`: they are left to be fetched in place of
     /// those before, and `count` is how many there are. Else the number of why the codec refuses the sample, or
     /// `MEMORY`, and nothing has changed.
     pub fn packetize(&mut self, mtu: usize, sample: &[u8], count: &mut usize) -> u32
@@ -155,7 +155,7 @@ impl PacketOutbox {
         code
     }
 
-    /// Copies the packet of this place, counted from 0, that the last sample left, and answers `OK`, or `TOO_SMALL`,
+    /// Copies the packet of this place, counted from 0, that the last sample left, and returns `OK`, or `TOO_SMALL`,
     /// and the buffer is unchanged; `needed` is its length in bytes, and `marker` its marker. `NOTHING` where there is
     /// none of that place.
     pub fn packet(

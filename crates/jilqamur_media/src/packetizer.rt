@@ -1,5 +1,5 @@
 //! Handles of packetizers: opened, given samples, and closed.
-//! Each call answers `CLOSED` at a closed handle, and changes nothing then.
+//! Each call returns `CLOSED` at a closed handle, and changes nothing then.
 
 ghost use Rattle.std.specs.Prelude.{◌≡◌, ◌≢◌, ◌+◌, ◌==◌, length, None, Some, IsSome, MatchOption};
 ghost use Rattle.std.specs.List.{slice_get};
@@ -16,7 +16,7 @@ use crate::packetizer_place::PacketizerHandle;
 use std::alloc::Global;
 
 impl PacketizerHandle {
-    /// Holds a packetizer that cut nothing, and answers `OK`; or `IN_USE` where it holds one already, why the
+    /// Holds a packetizer that cut nothing, and returns `OK`; or `IN_USE` where it holds one already, why the
     /// parameters make none, or `MEMORY`, and is unchanged.
     pub fn open(
         &mut self,
@@ -51,7 +51,7 @@ impl PacketizerHandle {
         }
     }
 
-    /// Frees the packetizer, and answers `OK`, or `CLOSED` where it holds none; it holds nothing from now on.
+    /// Frees the packetizer, and returns `OK`, or `CLOSED` where it holds none; it holds nothing from now on.
     pub fn close(&mut self, alloc: Global) -> u32
         ensures held { result ≡ answer_of self.old.place.object }
         ensures empty { self.new.place.object ≡ None }
@@ -62,7 +62,7 @@ impl PacketizerHandle {
         }
     }
 
-    /// Cuts a sample into packets of at most `mtu` bytes, and answers `OK`: they are left to be fetched in place of
+    /// Cuts a sample into packets of at most `mtu` bytes, and returns `OK`: they are left to be fetched in place of
     /// those before, and `count` is how many there are. Else the number of why the codec refuses the sample, or
     /// `MEMORY`, and nothing has changed.
     pub fn packetize(&mut self, alloc: Global, mtu: usize, sample: &[u8], count: &mut usize) -> u32
@@ -83,7 +83,7 @@ impl PacketizerHandle {
         code
     }
 
-    /// Copies the packet of this place, counted from 0, that the last sample left, and answers `OK`, or `TOO_SMALL`,
+    /// Copies the packet of this place, counted from 0, that the last sample left, and returns `OK`, or `TOO_SMALL`,
     /// and the buffer is unchanged; `needed` is its length in bytes, and `marker` its marker. `NOTHING` where there is
     /// none of that place.
     pub fn packet(

@@ -1,5 +1,5 @@
 //! A place for a window that a C program holds.
-//! Each call answers `CLOSED` at a closed handle, and changes nothing then.
+//! Each call returns `CLOSED` at a closed handle, and changes nothing then.
 
 ghost use Rattle.std.specs.Prelude.{◌≡◌, ◌≢◌, Option, Some, None, IsSome, is_some, MatchOption};
 ghost use Rattle.std.specs.Option.{option_map};
@@ -106,7 +106,7 @@ impl WindowHandle {
         let _empty = mem::replace(self, WindowHandle { full: true, place });
     }
 
-    /// Holds a new window, and answers `OK`; or `IN_USE` where it holds one already, or `MEMORY`, and is unchanged.
+    /// Holds a new window, and returns `OK`; or `IN_USE` where it holds one already, or `MEMORY`, and is unchanged.
     pub fn open(&mut self, alloc: Global) -> u32
         ensures opened { result ≡ ok → self.new.place.object ≡ Some fresh }
         ensures held_none { result ≡ ok → self.old.place.object ≡ None }
@@ -127,7 +127,7 @@ impl WindowHandle {
         }
     }
 
-    /// Frees the window, and answers `OK`, or `CLOSED` where it holds none; it holds nothing from now on.
+    /// Frees the window, and returns `OK`, or `CLOSED` where it holds none; it holds nothing from now on.
     pub fn close(&mut self, alloc: Global) -> u32
         ensures held { result ≡ answer_of self.old.place.object }
         ensures empty { self.new.place.object ≡ None }
@@ -138,7 +138,7 @@ impl WindowHandle {
         }
     }
 
-    /// Takes a datagram in, and answers `OK`: `number` is its widened sequence number, which is recorded. `UNREADABLE`
+    /// Takes a datagram in, and returns `OK`: `number` is its widened sequence number, which is recorded. `UNREADABLE`
     /// where it doesn't begin with a header, or `REFUSED` where its number came before, or is 1,024 or more below the
     /// greatest, and nothing has changed.
     pub fn receive(&mut self, alloc: Global, datagram: &[u8], number: &mut u64) -> u32

@@ -1,5 +1,5 @@
 //! What a receiving stream of a handle takes, and the units that it hands out.
-//! Each call answers `CLOSED` at a closed handle, and changes nothing then.
+//! Each call returns `CLOSED` at a closed handle, and changes nothing then.
 
 ghost use Rattle.std.specs.Prelude.{◌≡◌, ◌≢◌};
 ghost use Rattle.jilqamur_media.specs.Codes.{ok, nothing, closed};
@@ -15,7 +15,7 @@ use std::alloc::Global;
 
 impl ReceiverHandle {
     /// Takes a packet in, by the low 16 bits of its number, its time, marker and payload, which may be empty, and
-    /// answers `OK`: `number` is its widened number, which is recorded. `REFUSED` where that came before, or is
+    /// returns `OK`: `number` is its widened number, which is recorded. `REFUSED` where that came before, or is
     /// 1,024 or more below the greatest, or `MEMORY`, and nothing has changed.
     pub fn push(
         &mut self,
@@ -38,7 +38,7 @@ impl ReceiverHandle {
         code
     }
 
-    /// Answers `OK` where a unit is ready, which is left to be fetched. `NOTHING` where none is, `PAYLOAD` where a
+    /// Returns `OK` where a unit is ready, which is left to be fetched. `NOTHING` where none is, `PAYLOAD` where a
     /// packet of the next frame is refused, which is then done with, or `MEMORY`, and the frame stays.
     pub fn poll(&mut self, alloc: Global) -> u32
         ensures answer { AtObject self.old.place.object self.new.place.object result
@@ -69,7 +69,7 @@ impl ReceiverHandle {
         code
     }
 
-    /// Copies the bytes of the unit that a poll left last, and answers `OK`, or `TOO_SMALL`, and the buffer is
+    /// Copies the bytes of the unit that a poll left last, and returns `OK`, or `TOO_SMALL`, and the buffer is
     /// unchanged; `needed` is their count, and `told` what is told beside. `NOTHING` before the first unit.
     pub fn unit(
         &mut self,

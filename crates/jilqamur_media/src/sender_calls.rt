@@ -1,5 +1,5 @@
 //! The samples that a sending stream of a handle takes, and the datagrams that they leave.
-//! Each call answers `CLOSED` at a closed handle, and changes nothing then.
+//! Each call returns `CLOSED` at a closed handle, and changes nothing then.
 
 ghost use Rattle.std.specs.Prelude.{◌≡◌, length};
 ghost use Rattle.std.specs.List.{slice_get};
@@ -13,7 +13,7 @@ use crate::sender_place::SenderHandle;
 use std::alloc::Global;
 
 impl SenderHandle {
-    /// Sends a sample under a time in ticks of the stream's clock, and answers `OK`: its datagrams are left to be
+    /// Sends a sample under a time in ticks of the stream's clock, and returns `OK`: its datagrams are left to be
     /// fetched in place of those before, and `count` is how many there are. Else the first that holds of
     /// `STREAM_FAILED`, `TIME_TOO_LARGE`, `LIMIT_TOO_SMALL` and `PAYLOAD`, and nothing has changed; or `MEMORY`, and
     /// the stream sends no more.
@@ -38,7 +38,7 @@ impl SenderHandle {
         code
     }
 
-    /// Copies the datagram of this place, counted from 0, that the last sample left, and answers `OK`, or `TOO_SMALL`,
+    /// Copies the datagram of this place, counted from 0, that the last sample left, and returns `OK`, or `TOO_SMALL`,
     /// and the buffer is unchanged; `needed` is its length in bytes. `NOTHING` where there is none of that place.
     pub fn datagram(
         &mut self,

@@ -1,0 +1,45 @@
+//! Answers a browser's offer, which it reads, of audio, video and data: what the browser gets, and what its offer tells
+//! of its transport.
+
+use jilqamur::{Direction, End, EndError, Setup, Transport, Wish};
+use std::io::{self, Read};
+
+/// The digest of the certificate; a program has its own.
+const DIGEST: [u8; 32] = [0x5a; 32];
+
+/// A wish for both ways, whose datagrams are sent again under another SSRC.
+fn both_ways<'a>(ssrcs: &'a [u32], repairs: &'a [(u32, u32)]) -> Wish<'a> {
+    Wish::Accept { direction: Direction::SendRecv, ssrcs, repairs }
+}
+
+fn end_of_defaults() -> Result<End, EndError> {
+    let mut end = End::new()?;
+    end.default_rows()?;
+    end.extension(4, "urn:ietf:params:rtp-hdrext:sdes:mid")?;
+    end.make(1)?;
+    Ok(end)
+}
+
+fn main() -> Result<(), Box<dyn std::error::Error>> {
+    let mut offer = String::new();
+    io::stdin().read_to_string(&mut offer)?;
+    let mut end = end_of_defaults()?;
+    let answer = end.answer_browser(&offer, &[both_ways(&[44], &[]), both_ways(&[45], &[(45, 46)])])?;
+    let transport = Transport {
+        ufrag: "F7gI",
+        password: "x9cml/YzichV2+XlhiMu8g",
+        hash: "sha-256",
+        digest: &DIGEST,
+        setup: Setup::Passive,
+        is_lite: false,
+    };
+    print!("{}", end.for_browser(&answer, &transport)?);
+    let remote = end.remote()?;
+    println!("name {}", remote.ufrag.unwrap_or_default());
+    println!("password {}", remote.password.unwrap_or_default());
+    println!("fingerprint {}", remote.fingerprint.unwrap_or_default());
+    for candidate in remote.candidates {
+        println!("{candidate}");
+    }
+    Ok(())
+}
