@@ -1,0 +1,239 @@
+package main
+
+import (
+	"context"
+	"crypto"
+	"crypto/sha256"
+	"crypto/tls"
+	"crypto/x509"
+	"errors"
+	"fmt"
+	"net"
+	"strings"
+	"sync"
+
+	"github.com/pion/dtls/v2"
+	"github.com/pion/dtls/v2/pkg/crypto/fingerprint"
+	"github.com/pion/dtls/v2/pkg/crypto/selfsign"
+	"github.com/pion/ice/v2"
+	"github.com/pion/srtp/v2"
+)
+
+// transport is pion's ICE, DTLS and SRTP over the loopback.
+type transport struct {
+	agent       *ice.Agent
+	certificate tls.Certificate
+	conn        *ice.Conn
+	lock        sync.Mutex
+	early       [][]byte // what came before the keys
+	in, out     *srtp.Context
+	media       func([]byte)
+	control     func([]byte)
+}
+
+// newTransport gathers the candidates of the loopback alone.
+func newTransport() (*transport, error) {
+	certificate, err := selfsign.GenerateSelfSigned()
+	if err != nil {
+		return nil, err
+	}
+	agent, err := ice.NewAgent(&ice.AgentConfig{
+		NetworkTypes:     []ice.NetworkType{ice.NetworkTypeUDP4},
+		CandidateTypes:   []ice.CandidateType{ice.CandidateTypeHost},
+		MulticastDNSMode: ice.MulticastDNSModeDisabled,
+		IPFilter:         net.IP.IsLoopback,
+		IncludeLoopback:  true,
+	})
+	if err != nil {
+		return nil, err
+	}
+	t := &transport{agent: agent, certificate: certificate}
+	gathered := make(chan struct{})
+	err = agent.OnCandidate(func(c ice.Candidate) {
+		if c == nil {
+			close(gathered)
+		}
+	})
+	if err == nil {
+		err = agent.GatherCandidates()
+	}
+	if err == nil {
+		<-gathered
+	}
+	return t, err
+}
+
+func (t *transport) close() {
+	t.agent.Close()
+}
+
+// candidates are the candidates in the form of session texts.
+func (t *transport) candidates() (texts []string, err error) {
+	found, err := t.agent.GetLocalCandidates()
+	for _, candidate := range found {
+		texts = append(texts, "candidate:"+candidate.Marshal())
+	}
+	return texts, err
+}
+
+// digest is that of the certificate, by SHA-256.
+func (t *transport) digest() []byte {
+	sum := sha256.Sum256(t.certificate.Certificate[0])
+	return sum[:]
+}
+
+// connect reaches the browser: ICE first, then the keys by DTLS. Media and control are handed on as they are decrypted.
+func (t *transport) connect(offers bool, to remote, media, control func([]byte)) error {
+	t.media, t.control = media, control
+	for _, text := range to.candidates {
+		candidate, err := ice.UnmarshalCandidate(strings.TrimPrefix(text, "candidate:"))
+		if err == nil && candidate.NetworkType() == ice.NetworkTypeUDP4 {
+			err = t.agent.AddRemoteCandidate(candidate)
+		}
+		if err != nil {
+			fmt.Println("passed over:", text, err)
+		}
+	}
+	join := t.agent.Accept
+	if offers {
+		join = t.agent.Dial
+	}
+	conn, err := join(context.Background(), to.ufrag, to.password)
+	if err != nil {
+		return err
+	}
+	t.conn = conn
+	ours, theirs := net.Pipe()
+	go t.read(theirs)
+	go t.write(theirs)
+	return t.agree(ours, to)
+}
+
+// read tells the datagrams apart by their first byte (RFC 7983).
+func (t *transport) read(handshake net.Conn) {
+	buffer := make([]byte, 4096)
+	for {
+		n, err := t.conn.Read(buffer)
+		if err != nil {
+			handshake.Close()
+			return
+		}
+		datagram := append([]byte{}, buffer[:n]...)
+		switch {
+		case n > 0 && datagram[0] >= 20 && datagram[0] < 64:
+			handshake.Write(datagram)
+		case n > 1 && datagram[0] >= 128 && datagram[0] < 192:
+			t.take(datagram)
+		}
+	}
+}
+
+// write sends what the handshake says.
+func (t *transport) write(handshake net.Conn) {
+	buffer := make([]byte, 4096)
+	for {
+		n, err := handshake.Read(buffer)
+		if err != nil {
+			return
+		}
+		t.conn.Write(buffer[:n])
+	}
+}
+
+// agree makes the handshake, tests the browser's certificate, and takes the keys.
+func (t *transport) agree(conn net.Conn, to remote) error {
+	config := &dtls.Config{
+		Certificates:           []tls.Certificate{t.certificate},
+		SRTPProtectionProfiles: []dtls.SRTPProtectionProfile{dtls.SRTP_AES128_CM_HMAC_SHA1_80},
+		ExtendedMasterSecret:   dtls.RequireExtendedMasterSecret,
+		ClientAuth:             dtls.RequireAnyClientCert,
+		InsecureSkipVerify:     true, // the fingerprint is tested instead
+	}
+	isClient := to.setup == passive
+	join := dtls.Server
+	if isClient {
+		join = dtls.Client
+	}
+	made, err := join(conn, config)
+	if err != nil {
+		return err
+	}
+	state := made.ConnectionState()
+	if err := isOf(state.PeerCertificates, to.fingerprint); err != nil {
+		return err
+	}
+	keys := &srtp.Config{Profile: srtp.ProtectionProfileAes128CmHmacSha1_80}
+	if err := keys.ExtractSessionKeysFromDTLS(&state, isClient); err != nil {
+		return err
+	}
+	return t.start(keys)
+}
+
+// isOf tests a certificate by the fingerprint that the browser's text has.
+func isOf(certificates [][]byte, print string) error {
+	if len(certificates) == 0 {
+		return errors.New("the browser shows no certificate")
+	}
+	certificate, err := x509.ParseCertificate(certificates[0])
+	if err != nil {
+		return err
+	}
+	found, err := fingerprint.Fingerprint(certificate, crypto.SHA256)
+	if err == nil && !strings.EqualFold(print, "sha-256 "+found) {
+		err = errors.New("the browser's certificate isn't that of its text")
+	}
+	return err
+}
+
+// start takes the keys, and what came before them.
+func (t *transport) start(keys *srtp.Config) (err error) {
+	t.lock.Lock()
+	k := keys.Keys
+	t.out, err = srtp.CreateContext(k.LocalMasterKey, k.LocalMasterSalt, keys.Profile)
+	if err == nil {
+		t.in, err = srtp.CreateContext(k.RemoteMasterKey, k.RemoteMasterSalt, keys.Profile)
+	}
+	early := t.early
+	t.lock.Unlock()
+	for _, datagram := range early {
+		t.take(datagram)
+	}
+	return err
+}
+
+// take decrypts a datagram, of RTP or of RTCP by its second byte (RFC 5761 4), and hands it on.
+func (t *transport) take(datagram []byte) {
+	t.lock.Lock()
+	if t.in == nil {
+		t.early = append(t.early, datagram)
+		t.lock.Unlock()
+		return
+	}
+	isControl := datagram[1] >= 192 && datagram[1] < 224
+	decrypt := func() ([]byte, error) { return t.in.DecryptRTP(nil, datagram, nil) }
+	hand := t.media
+	if isControl {
+		decrypt = func() ([]byte, error) { return t.in.DecryptRTCP(nil, datagram, nil) }
+		hand = t.control
+	}
+	plain, err := decrypt()
+	t.lock.Unlock()
+	if err == nil {
+		hand(plain)
+	}
+}
+
+// send encrypts a datagram of RTP or of RTCP, and sends it.
+func (t *transport) send(datagram []byte, isControl bool) error {
+	t.lock.Lock()
+	defer t.lock.Unlock()
+	encrypt := func() ([]byte, error) { return t.out.EncryptRTP(nil, datagram, nil) }
+	if isControl {
+		encrypt = func() ([]byte, error) { return t.out.EncryptRTCP(nil, datagram, nil) }
+	}
+	secret, err := encrypt()
+	if err == nil {
+		_, err = t.conn.Write(secret)
+	}
+	return err
+}
