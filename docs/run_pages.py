@@ -26,6 +26,7 @@ NOT_RUN = {
     "rt plant": "it works on a crate that is being changed",
     "vectors/": "it writes stored runs anew",
     "> stdout": "it writes stored runs anew",
+    "examples/live/check": "it needs browsers, and the library that the gate's script leaves",
     "tshark": "it needs a capture of one's own",
     "rt try < stdin": "it is for a crate of one's own",
     "-ljilqamur": "dist/make runs it",

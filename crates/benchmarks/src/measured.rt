@@ -20,7 +20,7 @@ pub(crate) trait Round {
         ensures { counts self.old number tally.old self.new tally.new };
 }
 
-/// Does it so often; answers what was counted.
+/// Does it so often; returns what was counted.
 pub(crate) fn repeat<R: Round>(alloc: Global, round: &mut R, rounds: u32) -> Tally
     ensures { Repeats R.counts rounds round.old empty_tally round.new result }
 {
@@ -31,7 +31,7 @@ pub(crate) fn repeat<R: Round>(alloc: Global, round: &mut R, rounds: u32) -> Tal
     tally
 }
 
-/// Does it so often, and prints the time that it took; answers what was counted.
+/// Does it so often, and prints the time that it took; returns what was counted.
 pub(crate) fn measure<R: Round>(
     rt: &HostRuntime,
     what: &str,

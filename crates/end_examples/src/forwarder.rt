@@ -44,7 +44,7 @@ impl Forwarder {
         })
     }
 
-    /// Takes a datagram in, and answers those that are to be sent on.
+    /// Takes a datagram in, and returns those that are to be sent on.
     pub(crate) fn forward(
         &mut self,
         alloc: Global,

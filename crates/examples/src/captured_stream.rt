@@ -102,7 +102,7 @@ impl Counts {
         self.keyframes = self.keyframes.saturating_add(u64::from(is_key));
     }
 
-    /// Counts what a buffer handed out; answers whether it was something.
+    /// Counts what a buffer handed out; returns whether it was something.
     fn add(
         &mut self,
         popped: Result<Option<Depacketized>, PacketError>,

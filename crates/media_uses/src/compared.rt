@@ -11,7 +11,7 @@ use crate::worked_rows::{
     receive_all_hands_out_in_order, receive_owned_hands_out_in_order,
 };
 
-/// Prints a line for each row, and answers whether each is as it must be.
+/// Prints a line for each row, and returns whether each is as it must be.
 pub(crate) fn print_rows(rt: &HostRuntime) -> bool {
     let alloc = rt.alloc();
     let rows = [
@@ -55,7 +55,7 @@ pub(crate) fn print_rows(rt: &HostRuntime) -> bool {
     are_right
 }
 
-/// Prints a row's name and what came of it, and answers whether it is as it must be; None is a row of which a call was
+/// Prints a row's name and what came of it, and returns whether it is as it must be; None is a row of which a call was
 /// refused.
 fn print_row(rt: &HostRuntime, name: &str, row: Option<bool>) -> bool {
     let word = match row {

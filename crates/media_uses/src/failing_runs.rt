@@ -149,7 +149,7 @@ fn all_go_so(alloc: Global, runs: &[Run]) -> bool {
     true
 }
 
-/// Prints whether what is to come of the runs comes of them, and answers it.
+/// Prints whether what is to come of the runs comes of them, and returns it.
 pub(crate) fn print_runs(rt: &HostRuntime) -> bool {
     let fail = all_go_so(rt.alloc(), &FAILING);
     let _ = println!(*rt; "reads and writes that fail: {}", word_of(fail));

@@ -5,7 +5,7 @@ ghost use Rattle.rtp_media_play.specs.declared.schedule.Played.{Played};
 
 use rtp_media_play::Played;
 
-/// Whether the last event is a poll that answered None.
+/// Whether the last event is a poll that returned None.
 pub(crate) fn ends_silent(all: &[Played]) -> bool
     ensures { IsTrue result ↔ (slice_get all.now (length all.now - 1) ≡ Some (Played.Polled (Ok None))) }
 {

@@ -1,4 +1,4 @@
-//! What small calls answer, beside what the standards and the usual numbers say.
+//! What small calls return, beside what the standards and the usual numbers say.
 
 use h26x_payload::{
     ANNEXB_NALUSTART_CODE, AUD_NALU_TYPE, FILLER_NALU_TYPE, FU_END_BITMASK, FU_START_BITMASK,

@@ -9,7 +9,7 @@ use serde::{Serialize, Serializer};
 ///
 /// # Errors
 ///
-/// What the serializer answers.
+/// What the serializer returns.
 pub fn write_field<T: Serialize, S: Serializer>(
     name: &str,
     value: &T,

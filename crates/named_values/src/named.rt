@@ -28,7 +28,7 @@ pub fn find_named<T: Named>(table: &[T], text: &str) -> Option<T>
 ///
 /// # Errors
 ///
-/// What the serializer answers.
+/// What the serializer returns.
 pub fn write_name<T: Named, S: Serializer>(value: T, out: &mut S) -> Result<(), S::Error>
     ensures { OnOk result (Logs (S.written out.old) (S.written out.new) (name_event (T.name value))) }
 {
@@ -39,7 +39,7 @@ pub fn write_name<T: Named, S: Serializer>(value: T, out: &mut S) -> Result<(), 
 ///
 /// # Errors
 ///
-/// What the deserializer answers: for what is no text, for a text that is no name of the table, and where memory
+/// What the deserializer returns: for what is no text, for a text that is no name of the table, and where memory
 /// runs out.
 pub fn read_name<T: Named, F: Format>(
     alloc: Global,

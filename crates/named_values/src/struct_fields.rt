@@ -26,7 +26,7 @@ pub trait ReadFields: Drop {
     ///
     /// # Errors
     ///
-    /// What the deserializer answers.
+    /// What the deserializer returns.
     fn read_at<F: Format>(
         &mut self,
         place: usize,
@@ -40,7 +40,7 @@ pub trait ReadFields: Drop {
 ///
 /// # Errors
 ///
-/// What the deserializer answers.
+/// What the deserializer returns.
 pub fn read_optional<'de, T: Deserialize<'de>, F: Format>(
     field: &mut Option<T>,
     alloc: Global,
@@ -57,7 +57,7 @@ pub fn read_optional<'de, T: Deserialize<'de>, F: Format>(
 ///
 /// # Errors
 ///
-/// What the deserializer answers.
+/// What the deserializer returns.
 pub fn read_flag<F: Format>(
     field: &mut bool,
     from: &mut Deserializer<'_, '_, F>,
@@ -76,7 +76,7 @@ pub fn read_flag<F: Format>(
 ///
 /// # Errors
 ///
-/// What the deserializer answers, also for a field that comes twice, a field that is missing, and a sequence of another
+/// What the deserializer returns, also for a field that comes twice, a field that is missing, and a sequence of another
 /// length.
 pub fn read_fields<T: ReadFields, F: Format>(
     start: T,

@@ -26,7 +26,7 @@ pub fn isolation_law()
         ≡ after_events (format_of receiver.row) receiver.stream (own_events receiver datagrams) }
 {}
 
-/// A repair is an arrival (RFC 4588 4): what a sending stream answers is to its receiving stream what the datagram is
+/// A repair is an arrival (RFC 4588 4): what a sending stream returns is to its receiving stream what the datagram is
 /// that it wraps, the arrival of that one's number with its content (`arrives`); and `receive` says and does with it
 /// what it does with the datagram (`received`).
 pub fn repairs_law()

@@ -9,7 +9,7 @@ use crate::sample::Sample;
 use rtp_media_ends::{Datagram, End, SampleError};
 use std::alloc::{AllocError, Global};
 
-/// Pushes samples at a sending stream, and answers their datagrams, in order.
+/// Pushes samples at a sending stream, and returns their datagrams, in order.
 ///
 /// # Errors
 /// What the first refused sample is refused for; those before it were pushed. `SampleError::Memory` also where memory

@@ -27,7 +27,7 @@ use std::alloc::{AllocError, Global};
 
 /// Pushes samples at a sending stream of `a`, one after the other, and then lets a schedule happen at `b`, whose polls
 /// are polls of one of its receiving streams, and whose repairs that sending stream makes. Answers what `b` says of the
-/// bytes that arrive, why a repair is refused, and what the polls answer, in order.
+/// bytes that arrive, why a repair is refused, and what the polls return, in order.
 ///
 /// # Conditions
 /// `tx` is the number of a sending stream of `a`, and `rx` that of a receiving stream of `b`: `End::is_sender`,
@@ -66,7 +66,7 @@ pub fn play(
         IfOk result (λ all. IsFound b.old rx receiver → poll_answers all.items
         ≡ heard (format_of receiver.row) receiver.stream (own_events sent receiver schedule.now)) }
     // Legal under every sane schedule: what the polls hand out is the canonical units, in order and each at most
-    // once, and no poll answers a fault.
+    // once, and no poll returns a fault.
     ensures legal { let sender = sender_at a.old tx in
         IfOk result (λ all. (holding : Holding) → Hears b.old rx holding sender samples.now →
         IsSaneSchedule sender samples.now schedule.now →

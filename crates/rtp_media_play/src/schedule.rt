@@ -24,7 +24,7 @@ pub enum Played {
     Received(Received),
     /// Why a datagram isn't repaired; never `RepairError::Memory`.
     NotRepaired(RepairError),
-    /// What a poll answered: a unit, that none is ready, or why a packet of the next frame is refused, which is then
+    /// What a poll returned: a unit, that none is ready, or why a packet of the next frame is refused, which is then
     /// done with.
     Polled(Result<Option<Unit>, PacketError>),
 }

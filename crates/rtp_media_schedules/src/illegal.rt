@@ -8,7 +8,7 @@ ghost use Rattle.rtp_media_schedules.specs.Sending.{Canonical};
 
 /// No selection is legal that hands a unit out twice; that hands out a later unit and then an earlier one; that hands
 /// out a unit which reaches from one sample's datagrams into another's; that hands out the front of a unit without its
-/// last part; or in which a poll answers a fault.
+/// last part; or in which a poll returns a fault.
 pub fn not_legal()
     ensures twice { (c : Canonical) (u v : MediaUnit)
         → IsLegal (c ∷ []) (Ok (Some u) ∷ Ok (Some v) ∷ []) → ⊥ }

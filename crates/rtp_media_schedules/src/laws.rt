@@ -46,7 +46,7 @@ pub fn selections_have_places()
     ensures { (units : List Canonical) (answers : List Answer) → IsLegal units answers → IsSelection units answers }
 {}
 
-/// Under a tame schedule that ends by a poll that answers None the answers are exactly the canonical units.
+/// Under a tame schedule that ends by a poll that returns None the answers are exactly the canonical units.
 pub fn exact_under_tame_schedule()
     ensures { (format : Format) (holding : Holding) (first : ℕ) (samples : List SentSample) (turns : List Turn) →
         let events = map (event_of (numbered first (datagrams samples))) (turns ++ Ask ∷ []) in
@@ -81,12 +81,12 @@ pub fn true_numbers()
         (after_events format (fresh holding) (map (event_of sender) turns)) }
 {}
 
-/// Polls come to an end: after at most as many as packets are held, one answers None.
+/// Polls come to an end: after at most as many as packets are held, one returns None.
 pub fn polls_come_to_an_end()
     ensures { (format : Format) (s : Stream) → EndsSilent (heard format s (replicate (suc (length s.held)) Poll)) }
 {}
 
-/// A poll that answers a unit or a fault leaves fewer packets held, and a drain answers None only where no frame is
+/// A poll that returns a unit or a fault leaves fewer packets held, and a drain returns None only where no frame is
 /// complete.
 pub fn poll_laws()
     ensures fewer { (format : Format) (s : Stream) → poll_answer format s ≢ Ok None

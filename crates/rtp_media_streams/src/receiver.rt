@@ -250,7 +250,7 @@ impl ReceivingStream {
         })
     }
 
-    /// Takes one datagram of its own in, and answers its widened number; None where that is refused. The payload may be
+    /// Takes one datagram of its own in, and returns its widened number; None where that is refused. The payload may be
     /// empty: it is then held as any other, and its format says at a poll what it makes of it. The datagram is copied
     /// once, where its number is new.
     ///
@@ -334,7 +334,7 @@ impl ReceivingStream {
         handed_out(self.buffer.unit_at(0))
     }
 
-    /// Polls until no unit is ready or memory for one runs out, and answers what the polls answered, in
+    /// Polls until no unit is ready or memory for one runs out, and returns what the polls returned, in
     /// order.
     ///
     /// # Errors

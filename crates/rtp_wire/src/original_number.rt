@@ -7,7 +7,7 @@ use crate::header::RtpHeader;
 use rtp_wire_values::SeqNo;
 
 impl RtpHeader {
-    /// Writes the low 16 bits of a number in front of the buffer (RFC 4588 4), and answers their length. The bytes
+    /// Writes the low 16 bits of a number in front of the buffer (RFC 4588 4), and returns their length. The bytes
     /// behind them stay.
     ///
     /// # Conditions
@@ -21,7 +21,7 @@ impl RtpHeader {
         2
     }
 
-    /// Reads the low 16 bits of a number in front of the buffer (RFC 4588 4), and answers their length; 0, and nothing
+    /// Reads the low 16 bits of a number in front of the buffer (RFC 4588 4), and returns their length; 0, and nothing
     /// has changed, where there are fewer than two bytes.
     pub fn read_original_sequence_number(buf: &[u8], seq_no: &mut u16) -> usize
         ensures len { result ≡ (if nat_lt (length buf.now) 2 then 0 else 2) }

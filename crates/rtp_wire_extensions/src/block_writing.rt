@@ -158,7 +158,7 @@ impl ExtensionMap {
         self.extent(values).filled_len(false)
     }
 
-    /// Writes what a place carries, and answers the place behind it.
+    /// Writes what a place carries, and returns the place behind it.
     fn write_place(
         &self,
         buf: &mut [u8],
@@ -192,7 +192,7 @@ impl ExtensionMap {
         }
     }
 
-    /// Writes the block's bytes for these values in their form at this place, and answers the place behind them.
+    /// Writes the block's bytes for these values in their form at this place, and returns the place behind them.
     fn write_content(
         &self,
         values: &ExtensionValues,
@@ -215,7 +215,7 @@ impl ExtensionMap {
         put(buf, end, &[0; 3][..fill])
     }
 
-    /// Writes the block's bytes for these values at this place, and answers the place behind them.
+    /// Writes the block's bytes for these values at this place, and returns the place behind them.
     ///
     /// # Conditions
     /// The buffer has room for the block's bytes from `at` on.
@@ -229,7 +229,7 @@ impl ExtensionMap {
     }
 
     /// Writes the block for these values at this place, profile and count of words first (RFC 3550 5.3.1), and
-    /// answers the place behind it.
+    /// returns the place behind it.
     ///
     /// # Conditions
     /// The buffer has room for four bytes and the block's from `at` on.

@@ -3,7 +3,7 @@
 ghost use Rattle.std.specs.Prelude.{◌≡◌, ◌+◌, ◌≤◌, List, ℕ, length, ◌++◌};
 ghost use Rattle.rtp_wire_extensions.specs.Written.{IsWritten};
 
-/// Writes the bytes at this place, and answers the place behind them.
+/// Writes the bytes at this place, and returns the place behind them.
 ///
 /// # Conditions
 /// They end at the buffer's end or before it.

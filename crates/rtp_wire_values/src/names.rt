@@ -18,7 +18,7 @@ fn name_byte(byte: u8) -> u8
     }
 }
 
-/// Writes the name that a text gives over zeros, and answers its length.
+/// Writes the name that a text gives over zeros, and returns its length.
 fn write_name(bytes: &mut [u8], text: &[u8]) -> usize
     requires { bytes.old ≡ replicate (length bytes.old) 0 }
     ensures after { bytes.new ≡ filled (length bytes.old) (name_of (length bytes.old) text.now) }

@@ -42,7 +42,7 @@ impl SeqNo {
         self.0.checked_add(1) == Some(other.0)
     }
 
-    /// Counts one up, and answers the number that it was.
+    /// Counts one up, and returns the number that it was.
     ///
     /// # Conditions
     /// The number is below 2^64 - 1.

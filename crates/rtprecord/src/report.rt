@@ -6,7 +6,7 @@ use crate::recorder::Recorder;
 use crate::stream::{Source, Stream};
 use std::{fs, io};
 
-/// Writes the file of a stream, and answers its name, if its codec has one.
+/// Writes the file of a stream, and returns its name, if its codec has one.
 fn write_file(
     rt: &HostRuntime,
     stream: &Stream,

@@ -159,7 +159,7 @@ impl Stream {
         Ok(())
     }
 
-    /// Keeps what the buffer handed out; answers whether it was something.
+    /// Keeps what the buffer handed out; returns whether it was something.
     fn keep(&mut self, popped: Result<Option<Depacketized>, PacketError>) -> anyhow::Result<bool> {
         match popped {
             Ok(Some(unit)) => self.keep_unit(unit)?,

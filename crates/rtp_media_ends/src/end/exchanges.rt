@@ -123,7 +123,7 @@ impl End {
     }
 }
 
-/// Has `a` offer, `b` answer and `a` accept, and answers both texts. Both ends have then agreed on the
+/// Has `a` offer, `b` answer and `a` accept, and returns both texts. Both ends have then agreed on the
 /// rows and the map of header extensions of each section of the answer, and each takes the repairs that the other
 /// names.
 ///

@@ -15,7 +15,7 @@ use crate::params::StreamParams;
 use rtp_wire::{Mid, Pt, Ssrc};
 
 impl End {
-    /// Opens a sending stream of this SSRC for the agreed row of a payload type, and answers its
+    /// Opens a sending stream of this SSRC for the agreed row of a payload type, and returns its
     /// number, counted from 0 over the streams of both directions. Where `params` has distances, it
     /// sends under the row's RED type, each payload behind older ones (RFC 2198).
     ///
@@ -51,7 +51,7 @@ impl End {
         Ok(self.streams.add_sender(stream)?)
     }
 
-    /// Opens a receiving stream of this SSRC for the agreed row of a payload type, and answers its
+    /// Opens a receiving stream of this SSRC for the agreed row of a payload type, and returns its
     /// number, counted from 0 over the streams of both directions. Past a missing datagram a unit is
     /// handed out only once more than `hold_back` frames are complete. At most `held` packets wait; of more the
     /// lowest are dropped.

@@ -20,13 +20,13 @@ use rtp_media_streams::Datagram;
 pub struct ReceivedAll {
     /// What was said of each datagram, in order.
     pub verdicts: Vec<Received>,
-    /// What each stream answered to its polls, by its number; one that sends is not polled.
+    /// What each stream returned to its polls, by its number; one that sends is not polled.
     pub polls: Vec<Polls>,
 }
 
 impl End {
     /// Takes datagrams in, one after the other, and then polls each receiving stream, in rising
-    /// number, until it answers None or memory for a unit runs out, which is its last answer then.
+    /// number, until it returns None or memory for a unit runs out, which is its last answer then.
     ///
     /// # Errors
     /// `ReceiveError::Memory`, after a part of that was done: some first datagrams were received, or all were and
@@ -37,7 +37,7 @@ impl End {
             all.polls.items self.new.streams) }
         ensures others { OnOk result (self.new ≡ with_streams (after_datagrams self.old datagrams.now)
             self.new.streams) }
-        // All datagrams of a stream's samples came: its polls answer exactly the canonical units, unless
+        // All datagrams of a stream's samples came: its polls return exactly the canonical units, unless
         // memory for one ran out.
         ensures exact { IfOk result (λ all. (stream : ℕ) (holding : Holding) (sender : Sending)
             (samples : List Sample) (arrivals : List ℕ) →

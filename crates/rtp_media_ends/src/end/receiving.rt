@@ -77,7 +77,7 @@ impl End {
         streams.drain(stream)
     }
 
-    /// Polls a receiving stream until no unit is ready or memory for one runs out, and answers what the polls
+    /// Polls a receiving stream until no unit is ready or memory for one runs out, and returns what the polls
     /// answered, in order.
     ///
     /// # Conditions

@@ -9,7 +9,7 @@ use rtp_media_streams::{PollFault, Unit};
 use std::alloc::{AllocError, Global};
 use std::marker::Model;
 
-/// What the polls of a stream answered, one after the other.
+/// What the polls of a stream returned, one after the other.
 #[derive(Drop)]
 pub struct Polls {
     answers: Vec<Result<Unit, PollFault>>,
@@ -41,8 +41,8 @@ impl Polls {
 }
 
 impl StreamTable {
-    /// Polls each receiving stream, in rising number, until it answers None or memory for a unit runs out, and answers
-    /// what each stream answered, by its number; one that sends is not polled.
+    /// Polls each receiving stream, in rising number, until it returns None or memory for a unit runs out, and returns
+    /// what each stream returned, by its number; one that sends is not polled.
     ///
     /// # Errors
     /// `AllocError` where memory for these lists runs out; some streams were then polled some times.
@@ -54,7 +54,7 @@ impl StreamTable {
     }
 }
 
-/// Polls each receiving stream until it answers None or memory runs out.
+/// Polls each receiving stream until it returns None or memory runs out.
 fn poll_each(alloc: Global, streams: &mut Vec<OpenStream>) -> Result<Vec<Polls>, AllocError>
     ensures out { IfOk result (λ polls. ArePolledOut streams.old.items polls.items streams.new.items) }
     ensures some { OnErr result (ArePolledSome streams.old.items streams.new.items) }
@@ -68,7 +68,7 @@ fn poll_each(alloc: Global, streams: &mut Vec<OpenStream>) -> Result<Vec<Polls>,
     Ok(polls)
 }
 
-/// Polls a stream, where it receives, until it answers None or memory runs out.
+/// Polls a stream, where it receives, until it returns None or memory runs out.
 fn poll_out(alloc: Global, stream: &mut OpenStream) -> Result<Polls, AllocError>
     ensures out { IfOk result (λ polls. AnswersAll stream.old polls stream.new) }
     ensures some { OnErr result (AnswersSome stream.old stream.new) }
