@@ -6,8 +6,10 @@ name public functions and types, and in parentheses clauses. docs/LAYERS.md is w
 headline of README that of PROMISES. On any page but CHANGELOG, which tells what is gone, a name with an
 underscore stands somewhere in the tree, and a block behind a line `<!-- FILE -->` word for word in that file, at one
 depth of indentation. No other line is longer than 120 characters, README has at most 130 lines, and each link within
-the repository leads to a file, and to a heading of it. Each wrong body in wrong_bodies/ changes text that its file has
-once. Prints what is missing, and ends with status 1 then.
+the repository leads to a file, and to a heading of it. Each wrong body in wrong_bodies/ and crates/*/must-fail/ changes
+text that its file has once. A name is imported from the crate that defines it: only the crates for users hand names on,
+each straight from its crate, and only programs take them there. What calls of the library for C answer is numbered
+alike in its crate, its header, and the packages for Rust and Python. Prints what is missing, and ends with status 1 then.
 """
 import re
 import subprocess
@@ -19,6 +21,11 @@ ROOT = Path(__file__).resolve().parent.parent
 CRATES = ROOT / "crates"
 LONGEST_LINE = 120
 MOST_LINES_OF_README = 130
+# The crates for users, which hand on what their layer has for them.
+DOORS = (
+    "rtp_wire", "payload_core", "h26x_payload", "sdp_formats", "sdp_formats_json", "rtp_media", "rtp_media_browsers",
+    "media_files",
+)
 
 
 def pages():
@@ -142,6 +149,12 @@ def differing_picture():
         yield "docs/LAYERS.md isn't what docs/layers.py prints"
 
 
+def differing_crate_pages():
+    """README.md of each crate for users is what docs/crate_pages.py writes."""
+    printed = subprocess.run([sys.executable, ROOT / "docs/crate_pages.py", "--check"], capture_output=True, text=True)
+    yield from printed.stdout.splitlines()
+
+
 def differing_files():
     """What one program printed and another one reads, or a page shows, is the same."""
     printed = without_indent((CRATES / "rtpexplain/stdout").read_text(encoding="utf-8").split("\n"))
@@ -212,20 +225,111 @@ def differing_headline():
         yield "README.md: the headline isn't that of docs/PROMISES.md"
 
 
-def stale_wrong_bodies():
-    for edit in sorted(ROOT.glob("wrong_bodies/*/*.edit")):
-        file = None
+def stale_edits():
+    """Edits whose old text isn't in its file once, after the pairs before it."""
+    for edit in sorted([*ROOT.glob("wrong_bodies/*/*.edit"), *CRATES.glob("*/must-fail/*.edit")]):
+        crate = edit.parent.name if edit.parent.name != "must-fail" else edit.parent.parent.name
+        texts, file, old = {}, None, ""
         for line in edit.read_text(encoding="utf-8").split("\n"):
-            if line.startswith("file: "):
-                file = CRATES / edit.parent.name / line[len("file: "):].strip()
-            elif line.startswith("old: "):
-                times = file.read_text(encoding="utf-8").count(line[len("old: "):]) if file and file.is_file() else 0
-                if times != 1:
-                    yield f"{edit.relative_to(ROOT)}: its old text stands {times} times in {file}, and not once"
+            kind, _, text = line.partition(": ")
+            if kind == "file":
+                file = CRATES / crate / text.strip()
+                texts.setdefault(file, file.read_text(encoding="utf-8") if file.is_file() else "")
+            elif kind == "old":
+                old = text
+                if (times := texts.get(file, "").count(old)) != 1:
+                    yield f"{edit.relative_to(ROOT)}: its old text is {times} times in {file}, and not once"
+            elif kind == "new" and file:
+                texts[file] = texts[file].replace(old, text, 1)
+
+
+def imported(text, crates):
+    """Each crate and name that a file of code names by `use CRATE::..` or `CRATE::name`."""
+    for crate, one, many in re.findall(r"\b(\w+)::(?:([A-Za-z_]\w*)|\{([^{}]*)\})", text):
+        if crate in crates:
+            for name in [one] if one else re.findall(r"(\w+)(?: as \w+)?\s*(?:,|$)", many):
+                yield crate, name
+
+
+@lru_cache(maxsize=None)
+def handed_on(crate):
+    """The names that a crate's root re-exports of other crates of this repository."""
+    root = CRATES / crate / "src/lib.rt"
+    text = root.read_text(encoding="utf-8") if root.is_file() else ""
+    uses = "\n".join(re.findall(r"^pub use [^;]*;", text, re.M))
+    return {name: owner for owner, name in imported(uses, {path.name for path in CRATES.iterdir()})}
+
+
+def detours():
+    """Names that aren't imported from the crate that defines them."""
+    crates = {path.name for path in CRATES.iterdir()}
+    for crate in sorted(crates):
+        for name, owner in handed_on(crate).items():
+            if crate not in DOORS:
+                yield f"crates/{crate}/src/lib.rt: hands on {name}, which {owner} defines"
+            elif name in handed_on(owner):
+                yield f"crates/{crate}/src/lib.rt: takes {name} from {owner}, which only hands it on"
+        if not (CRATES / crate / "src/main.rt").is_file():
+            yield from detours_in(crate, crates)
+
+
+def detours_in(crate, crates):
+    folders = [(CRATES / crate / name) for name in ("src", "specs", "proofs")]
+    for path in sorted(path for folder in folders for path in folder.rglob("*.[ar]*t")):
+        text, where = path.read_text(encoding="utf-8"), path.relative_to(ROOT)
+        if path.name != "lib.rt":
+            for owner, name in imported(text, crates - {crate}):
+                if name in handed_on(owner):
+                    yield f"{where}: {name} of {owner} is defined in {handed_on(owner)[name]}"
+        is_hand_on = path.name == "Lib.antt" and crate in DOORS
+        for public, owner, file in re.findall(r"^\s*(pub )?use Rattle\.(\w+)\.specs\.(\w+)", text, re.M):
+            if public and owner != crate and owner in crates and not is_hand_on:
+                yield f"{where}: hands on {file} of {owner}"
+            if owner in crates and file not in ("declared", "contracts"):
+                if not (CRATES / owner / "specs" / f"{file}.antt").is_file():
+                    yield f"{where}: {owner} has no definitions {file} of its own"
+
+
+def library_codes():
+    """What calls of the library for C answer, by name, as its crate, its header and those over it number them."""
+    header = (ROOT / "include/jilqamur.h").read_text(encoding="utf-8")
+    listed = header.split("/* What calls return. */")[1].split("};")[0]
+    rust = (ROOT / "rust/src/error.rs").read_text(encoding="utf-8").split("mod code {")[1].split("}")[0]
+    python = (ROOT / "python/jilqamur/codes.py").read_text(encoding="utf-8").split("class Code")[1].split("TEXTS")[0]
+    constant = r"\bconst (\w+): u32 = (\d+);"
+    yield "crates/jilqamur/src/codes.rt", re.findall(constant, sources("jilqamur").split("//! What calls return")[1])
+    yield "include/jilqamur.h", re.findall(r"\bJILQAMUR_(\w+) = (\d+)", listed)
+    yield "rust/src/error.rs", re.findall(constant, rust)
+    yield "python/jilqamur/codes.py", re.findall(r"^    (\w+) = (\d+)$", python, re.M)
+
+
+def differing_codes():
+    """Each code is one number everywhere, with one text, and means the refusal of its name."""
+    (owner, wanted), *others = library_codes()
+    if [int(number) for _, number in wanted] != list(range(len(wanted))):
+        yield f"{owner}: the codes aren't numbered from 0 on"
+    for file, codes in others:
+        for name, number in sorted(set(codes) ^ set(wanted)):
+            yield f"{name} = {number} is in {file if (name, number) in codes else owner} alone"
+    header = (ROOT / "include/jilqamur.h").read_text(encoding="utf-8")
+    texts = re.findall(r'"([^"]*)"', header.split("const texts[] = {")[1].split("};")[0])
+    if len(texts) != len(wanted):
+        yield f"include/jilqamur.h has {len(texts)} texts for {len(wanted)} codes"
+    said = {name: text for (name, _), text in zip(wanted, texts)}
+    in_rust, in_python = r'\(code::(\w+), \w+::(\w+), "([^"]*)"\)', r'Code\.(\w+)(): "([^"]*)"'
+    for file, row in (("rust/src/error.rs", in_rust), ("rust/src/payloads.rs", in_rust),
+                      ("python/jilqamur/codes.py", in_python)):
+        for code, refusal, text in re.findall(row, (ROOT / file).read_text(encoding="utf-8")):
+            if refusal and code.replace("_", "").lower() != refusal.lower():
+                yield f"{file}: code::{code} is {refusal}"
+            if said.get(code) != text:
+                yield f"{file}: the text of {code} isn't that of include/jilqamur.h"
 
 
 found = [
+    *differing_codes(),
     *differing_picture(),
+    *differing_crate_pages(),
     *missing_promises(),
     *differing_blocks(),
     *differing_files(),
@@ -233,7 +337,8 @@ found = [
     *long_lines(),
     *dead_links(),
     *differing_headline(),
-    *stale_wrong_bodies(),
+    *stale_edits(),
+    *detours(),
 ]
 for line in found:
     print(line)

@@ -9,7 +9,9 @@
  *   - a bool is 0 or 1;
  *   - malloc, realloc and free come from one allocator;
  *   - no call is made from a signal handler, or in the forked child of a process with threads;
- *   - two calls on one handle do not overlap in time, and a handle stays on the thread that opened it.
+ *   - two calls on one handle do not overlap in time. A handle may move to another thread: what orders its calls there
+ *     (a lock, a channel, the start or the end of a thread) has to come between its last call here and its first call
+ *     there. Calls on different handles may overlap: nothing is shared between them.
  * No call keeps a pointer that it is given.
  */
 #ifndef JILQAMUR_H
@@ -89,7 +91,7 @@ enum {
     JILQAMUR_NOT_OWN = 48,                /* the datagram isn't one that the stream sent */
     /* Why a text doesn't pass between a browser and an end: */
     JILQAMUR_REST_UNREAD = 49,            /* a line fits nowhere, and what follows would be lost */
-    JILQAMUR_MID_NOT_KEPT = 50,           /* a section's name has more than 16 bytes, or not letters, digits and _ alone */
+    JILQAMUR_MID_NOT_KEPT = 50,           /* a mid has more than 16 bytes, or other signs than letters, digits and _ */
     JILQAMUR_MID_TWICE = 51,              /* two sections have one name */
     JILQAMUR_SECTION_REJECTED = 52,       /* the browser rejects a section: withdraw the offer, and make it without */
     JILQAMUR_SEVERAL_BUNDLES = 53,        /* there are several bundles, and so several transports (RFC 9143) */
@@ -98,7 +100,11 @@ enum {
     JILQAMUR_KEYS_ALONE = 56,             /* a section has keys, and there is no fingerprint for it */
     JILQAMUR_UFRAG_NOT_FIT = 57,          /* the name of ICE isn't 4 to 256 letters, digits, + and / (RFC 8839 5.4) */
     JILQAMUR_PASSWORD_NOT_FIT = 58,       /* the password of ICE isn't 22 to 256 of them */
-    JILQAMUR_SETUP_NOT_FIT = 59           /* the part in the connection isn't one that may be said (RFC 8842 5.3) */
+    JILQAMUR_SETUP_NOT_FIT = 59,          /* the part in the connection isn't one that may be said (RFC 8842 5.3) */
+    /* Why a packet isn't sent on: */
+    JILQAMUR_ADDS_REDUNDANCY = 60,        /* the stream adds redundancy (RFC 2198) */
+    JILQAMUR_NUMBER_TOO_LARGE = 61,       /* the sequence number is 2^62 or above */
+    JILQAMUR_NO_PAYLOAD = 62              /* the packet has no payload */
 };
 
 /* What an answer means, in words; never null. Those of JILQAMUR_DAMAGED name its first cause alone. */
@@ -165,6 +171,9 @@ static inline const char *jilqamur_error_text(uint32_t answer)
         "the name of ICE doesn't fit",
         "the password of ICE doesn't fit",
         "the setup doesn't fit",
+        "the stream adds redundancy",
+        "the number is too large",
+        "there is no payload",
     };
     return answer < sizeof texts / sizeof texts[0] ? texts[answer] : "no such answer";
 }
@@ -356,7 +365,7 @@ typedef struct jilqamur_row {
     uint8_t resend;       /* the type of its retransmissions; not looked at without them */
     bool has_red;         /* whether it has redundancy (RFC 2198) */
     uint8_t red;          /* the RED type; not looked at without it */
-    uint32_t clock_rate;  /* ticks a second, at least 1 */
+    uint32_t clock_rate;  /* ticks a second, at least 1; of G.722 16,000, or as texts say it 8,000 */
     bool has_channels;    /* whether the row names its channels */
     uint8_t channels;     /* how many; not looked at where they aren't named */
 } jilqamur_row;
@@ -416,20 +425,21 @@ uint32_t jilqamur_end_withdraw(jilqamur_end *end);
  * offer or answer that is not refused, and has no 0 at its end. */
 uint32_t jilqamur_end_text(jilqamur_end *end, uint8_t *buffer, size_t len, size_t *needed);
 
-/* Puts a wish for the next section of a browser's offer behind those before: whether it is answered or rejected, and of
- * one that is answered which way media shall flow as this end sees it, and the SSRCs that this end sends under, with
- * the repairs that were put before it, which each wish uses up. A section without a wish is rejected. JILQAMUR_MEMORY, and
- * nothing has changed. */
+/* Puts a wish for the next section of a browser's offer behind those before: whether it is answered or rejected, and
+ * of one that is answered which way media shall flow as this end sees it, and the SSRCs that this end sends under,
+ * with the repairs that were put before it, which each wish uses up. A section without a wish is rejected.
+ * JILQAMUR_MEMORY, and nothing has changed. */
 uint32_t jilqamur_end_wish(jilqamur_end *end, bool is_accepted, bool sends, bool receives, const uint32_t *ssrcs,
                            size_t count);
 
 /* Answers a browser's offer of len bytes by the wishes, which it uses up (RFC 8829 5.3.1): jilqamur_end_text fetches
- * the text of the answer, which jilqamur_end_for_browser makes one for the browser. The end never sees sections of data, of
- * port 0 or without a wish; what is taken out is remembered, and so is what the offer tells of the browser's transport.
- * JILQAMUR_NOT_TEXT, JILQAMUR_NOT_MADE without an end; else the first that holds of JILQAMUR_TEXT_UNREADABLE,
- * JILQAMUR_REST_UNREAD, JILQAMUR_MID_NOT_KEPT, JILQAMUR_MID_TWICE, JILQAMUR_SEVERAL_BUNDLES, JILQAMUR_OUTSIDE_BUNDLE,
- * JILQAMUR_NOTHING_LEFT and JILQAMUR_KEYS_ALONE; else JILQAMUR_OUT_OF_RANGE as at jilqamur_end_offer, and what
- * jilqamur_end_answer refuses; or JILQAMUR_MEMORY. End, text and what is remembered then stay. */
+ * the text of the answer, which jilqamur_end_for_browser makes one for the browser. The end never sees sections of
+ * data, of port 0 or without a wish; what is taken out is remembered, and so is what the offer tells of the browser's
+ * transport. JILQAMUR_NOT_TEXT, JILQAMUR_NOT_MADE without an end; else the first that holds of
+ * JILQAMUR_TEXT_UNREADABLE, JILQAMUR_REST_UNREAD, JILQAMUR_MID_NOT_KEPT, JILQAMUR_MID_TWICE, JILQAMUR_SEVERAL_BUNDLES,
+ * JILQAMUR_OUTSIDE_BUNDLE, JILQAMUR_NOTHING_LEFT and JILQAMUR_KEYS_ALONE; else JILQAMUR_OUT_OF_RANGE as at
+ * jilqamur_end_offer, and what jilqamur_end_answer refuses; or JILQAMUR_MEMORY. End, text and what is remembered then
+ * stay. */
 uint32_t jilqamur_end_answer_browser(jilqamur_end *end, const uint8_t *offer, size_t len);
 
 /* Takes a browser's answer of len bytes to the pending offer, and remembers what it tells of the browser's transport.
@@ -607,6 +617,122 @@ uint32_t jilqamur_end_unit(jilqamur_end *end, uint8_t *buffer, size_t len, size_
 /* Tells the values of the header extensions of the last datagram of that unit. JILQAMUR_NOTHING before the first unit,
  * and values is unchanged. */
 uint32_t jilqamur_end_values(jilqamur_end *end, jilqamur_values *values);
+
+/* The ids of header extensions (RFC 8285), 1 to 16, or 0 for none. Of two with one id the later one here has it. */
+typedef struct jilqamur_extension_ids {
+    uint8_t audio_level;        /* the audio level and voice activity: urn:ietf:params:rtp-hdrext:ssrc-audio-level */
+    uint8_t abs_send_time;      /* http://www.webrtc.org/experiments/rtp-hdrext/abs-send-time */
+    uint8_t transport_cc;       /* http://www.ietf.org/id/draft-holmer-rmcat-transport-wide-cc-extensions-01 */
+    uint8_t video_orientation;  /* urn:3gpp:video-orientation */
+    uint8_t play_delay;         /* http://www.webrtc.org/experiments/rtp-hdrext/playout-delay */
+    uint8_t video_content_type; /* http://www.webrtc.org/experiments/rtp-hdrext/video-content-type */
+    uint8_t capture_time;       /* http://www.webrtc.org/experiments/rtp-hdrext/abs-capture-time */
+    uint8_t mid;                /* the section's mid: urn:ietf:params:rtp-hdrext:sdes:mid */
+    uint8_t rid;                /* the stream's id: urn:ietf:params:rtp-hdrext:sdes:rtp-stream-id */
+    uint8_t repaired_rid;       /* that of a repaired stream: urn:ietf:params:rtp-hdrext:sdes:repaired-rtp-stream-id */
+} jilqamur_extension_ids;
+
+/* The names of section and stream that a datagram carries. The bytes after a name are 0, and it has no 0 at its end. */
+typedef struct jilqamur_names {
+    bool has_mid;             /* whether there is a mid (RFC 9143 15) */
+    uint8_t mid_len;          /* its length in bytes; 0 without one */
+    uint8_t mid[16];          /* the mid */
+    bool has_rid;             /* whether there is a RID (RFC 8852 4.1) */
+    uint8_t rid_len;          /* its length in bytes; 0 without one */
+    uint8_t rid[8];           /* the RID */
+    bool has_repaired_rid;    /* whether there is the RID of a stream that is repaired (RFC 8852 4.2) */
+    uint8_t repaired_rid_len; /* its length in bytes; 0 without one */
+    uint8_t repaired_rid[8];  /* that RID */
+} jilqamur_names;
+
+/* Tells the values of the header extensions in front of a datagram of len bytes, read by these ids, and the names of
+ * its section and stream: JILQAMUR_OK; or JILQAMUR_OUT_OF_RANGE if an id is above 16, JILQAMUR_UNREADABLE if the
+ * datagram doesn't begin with a header, and values and names are unchanged. */
+uint32_t jilqamur_header_values(const uint8_t *datagram, size_t len, const jilqamur_extension_ids *ids,
+                                jilqamur_values *values, jilqamur_names *names);
+
+/* How a datagram arrives at a receiving stream. */
+typedef struct jilqamur_arrival {
+    uint16_t low;       /* the low 16 bits of its sequence number */
+    uint32_t timestamp; /* its RTP timestamp */
+    bool marker;        /* its marker bit */
+    size_t start;       /* where its payload begins in the datagram */
+    size_t end;         /* where its payload ends */
+} jilqamur_arrival;
+
+/* Tells how a datagram of len bytes arrives at the receiving stream that would take it, without taking it: the stream's
+ * number, the fields of its header and the place of its payload, and the values of its header extensions. A
+ * retransmission tells what it wraps. JILQAMUR_NOT_MADE without an end; else the first that applies of
+ * JILQAMUR_UNREADABLE, JILQAMUR_FOREIGN and JILQAMUR_DAMAGED, and nothing is told. */
+uint32_t jilqamur_end_arrival(jilqamur_end *end, const uint8_t *datagram, size_t len, size_t *stream,
+                              jilqamur_arrival *arrival, jilqamur_values *values);
+
+/* Takes only the number of a datagram that arrived at a receiving stream, by its low 16 bits, for one that is sent on:
+ * JILQAMUR_OK, and number is the widened number; nothing waits to be polled. JILQAMUR_NOT_MADE without an end,
+ * JILQAMUR_NO_STREAM, JILQAMUR_REFUSED if the number came before, or is 1,024 or more below the greatest; the end is
+ * then unchanged. */
+uint32_t jilqamur_end_take_number(jilqamur_end *end, size_t stream, uint16_t low, uint64_t *number);
+
+/* Sends one packet of another stream as a datagram of a sending stream, with this number, timestamp, marker bit and
+ * payload: it is left to be fetched as the only datagram, in place of those before. It carries the values that are
+ * given, and the mid if mid_len is not 0, each if the agreed map has an id for it. Numbers may come in any order; the
+ * stream's samples are numbered above them. JILQAMUR_NOT_TEXT, JILQAMUR_NOT_MADE without an end, JILQAMUR_NO_STREAM;
+ * else the first that applies of JILQAMUR_ADDS_REDUNDANCY, JILQAMUR_NUMBER_TOO_LARGE, JILQAMUR_NO_PAYLOAD and
+ * JILQAMUR_LIMIT_TOO_SMALL, or JILQAMUR_MEMORY, and nothing has changed. */
+uint32_t jilqamur_end_send_packet(jilqamur_end *end, size_t stream, uint64_t number, uint32_t timestamp, bool marker,
+                                  const jilqamur_values *values, const uint8_t *mid, size_t mid_len,
+                                  const uint8_t *payload, size_t payload_len);
+
+/* A handle of a forwarder, which numbers and times the packets of several sources as those of one stream: the packets
+ * of a source keep their distances, and each piece of a source begins above the numbers that were given before.
+ * Packets that come late are sent on where they belong, as long as the last 64 pieces are kept. Kept like the handle
+ * of an end. At a closed handle each call but jilqamur_forwarder_open returns JILQAMUR_CLOSED, and changes nothing. */
+typedef struct jilqamur_forwarder {
+    bool full;
+    void *place;
+} jilqamur_forwarder;
+
+#define JILQAMUR_FORWARDER_CLOSED {false, 0}
+
+/* The number and timestamp under which a packet is sent on. */
+typedef struct jilqamur_placed {
+    uint64_t number;    /* the sequence number, 64 bits wide */
+    uint32_t timestamp; /* the RTP timestamp */
+} jilqamur_placed;
+
+/* Opens a forwarder that sends nothing on, and whose first packet will get the number first: JILQAMUR_OK; or
+ * JILQAMUR_IN_USE if the handle is open, or JILQAMUR_MEMORY, and it is unchanged. */
+uint32_t jilqamur_forwarder_open(jilqamur_forwarder *forwarder, uint64_t first);
+
+/* Frees the forwarder: JILQAMUR_OK, or JILQAMUR_CLOSED if the handle is closed. It is closed afterwards. */
+uint32_t jilqamur_forwarder_close(jilqamur_forwarder *forwarder);
+
+/* Goes over to a source, any number that the caller gives it, from its packet of this number and timestamp on, which
+ * gets the timestamp at and the next number. Between two frames of the source before. JILQAMUR_MEMORY, and nothing has
+ * changed. */
+uint32_t jilqamur_forwarder_switch(jilqamur_forwarder *forwarder, uint64_t source, uint64_t number, uint32_t timestamp,
+                                   uint32_t at);
+
+/* Leaves out what the source that is sent on last sends before the packet of this number, which gets the next number;
+ * timestamps stay those of the source's clock. Before the first switch it does nothing. JILQAMUR_MEMORY, and nothing
+ * has changed. */
+uint32_t jilqamur_forwarder_skip_to(jilqamur_forwarder *forwarder, uint64_t number);
+
+/* Says that what is sent on of the last source ends before its packet of this number: the next piece begins where that
+ * packet would be, and packets before it may still come. */
+uint32_t jilqamur_forwarder_end_at(jilqamur_forwarder *forwarder, uint64_t number);
+
+/* Tells under which number and timestamp a source's packet of these is sent on: JILQAMUR_OK; or JILQAMUR_NOTHING if it
+ * isn't sent on, and placed is unchanged. */
+uint32_t jilqamur_forwarder_place(jilqamur_forwarder *forwarder, uint64_t source, uint64_t number, uint32_t timestamp,
+                                  jilqamur_placed *placed);
+
+/* The same, and the number is given: the next piece begins above it. */
+uint32_t jilqamur_forwarder_forward(jilqamur_forwarder *forwarder, uint64_t source, uint64_t number, uint32_t timestamp,
+                                    jilqamur_placed *placed);
+
+/* Tells the first number above all those that were given. */
+uint32_t jilqamur_forwarder_next(jilqamur_forwarder *forwarder, uint64_t *next);
 
 /* How a sending stream without an end numbers and cuts its samples. */
 typedef struct jilqamur_sender_params {

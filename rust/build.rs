@@ -1,15 +1,24 @@
-//! Finds `libjilqamur.a` and the kit's `liblibc_c.a` in the folders that `JILQAMUR_LIBS` lists, parted by colons.
-//! Without the variable nothing is linked, so that `cargo check` and `cargo doc` work where no library was built.
+//! Links `lib/libjilqamur.a`, which is in the folder of this crate. `JILQAMUR_LIBS` lists other folders in place of it,
+//! separated by colons; these may have the kit's `liblibc_c.a` beside the library. Where there is no library nothing is
+//! linked, so that `cargo check` and `cargo doc` work.
+
+use std::path::Path;
 
 fn main() {
     println!("cargo:rerun-if-env-changed=JILQAMUR_LIBS");
-    let Ok(folders) = std::env::var("JILQAMUR_LIBS") else {
-        println!("cargo:warning=JILQAMUR_LIBS isn't set: no program will link");
+    let own = format!("{}/lib", std::env::var("CARGO_MANIFEST_DIR").expect("cargo names the folder of the crate"));
+    println!("cargo:rerun-if-changed={own}");
+    let folders = std::env::var("JILQAMUR_LIBS").unwrap_or(own);
+    let has = |name: &str| folders.split(':').any(|folder| Path::new(folder).join(name).is_file());
+    if !has("libjilqamur.a") {
+        println!("cargo:warning=there is no libjilqamur.a in {folders}: no program will link");
         return;
-    };
+    }
     for folder in folders.split(':') {
         println!("cargo:rustc-link-search=native={folder}");
     }
     println!("cargo:rustc-link-lib=static=jilqamur");
-    println!("cargo:rustc-link-lib=static=libc_c");
+    if has("liblibc_c.a") {
+        println!("cargo:rustc-link-lib=static=libc_c");
+    }
 }

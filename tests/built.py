@@ -16,7 +16,7 @@ LINES = "rtplines"
 TEXTS_AND_ROWS = "sdp_lines"
 PAYLOADS = "payload_lines"
 HEADERS = "wire_lines"
-MEMORY = "refused_memory"
+MEMORY = "refused_allocations"
 
 
 class Counts:

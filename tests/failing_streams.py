@@ -1,5 +1,5 @@
 #!/usr/bin/env python3
-"""Readers and writers that fail. `refused_memory streams` runs a hundred lines: each read and each write fails in
+"""Readers and writers that fail. `refused_allocations streams` runs a hundred lines: each read and each write fails in
 turn, a writer takes one byte a call, and two inputs have no end; each must come to what is said below. `rtplines`
 itself is run with an input and an output that can't be read and written, and with an input that comes byte by byte.
 Run it behind `rt ci`.
@@ -12,7 +12,7 @@ import tempfile
 import built
 from built import Counts
 
-# What `refused_memory streams` prints: how often a read of 16 bytes and a write of at most 16 bytes failed is counted.
+# What `refused_allocations streams` prints: how often a read of 16 bytes and a write of at most 16 bytes failed is counted.
 RUNS = ["the whole run: ok", "a byte a write: ok", "142 reads that fail", "reads that fail: ok",
         "228 writes that fail", "writes that fail: ok", "one byte without end: ok", "blank lines without end: ok"]
 LINES = b"fixed a\nfixed b\nsend a 0 44 111 0 1200 1400 - -\nopen b 0 44 111 127\nsample a 0 960 010203\npoll b 0"

@@ -218,6 +218,9 @@ static bool sends(jilqamur_end *end, size_t stream)
         must(jilqamur_end_datagram(end, k, bytes, sizeof bytes, &needed) == JILQAMUR_OK, "no datagram");
         say_bytes(bytes, needed);
     }
+    ASK("send_packet", jilqamur_end_send_packet(end, stream, 900, 7, true, &values, JILQAMUR_TEXT("0"), unit_bytes, 9));
+    must(jilqamur_end_datagram(end, 0, bytes, sizeof bytes, &needed) == JILQAMUR_OK, "no packet");
+    say_bytes(bytes, needed);
     if (stream == 1) {
         ASK("repair", jilqamur_end_repair(end, stream, bytes, needed));
         must(jilqamur_end_datagram(end, 0, bytes, sizeof bytes, &needed) == JILQAMUR_OK, "no repair");
@@ -345,6 +348,23 @@ static void browsers(void)
     say("%u %u\n", jilqamur_end_close(&a), jilqamur_end_close(&b));
 }
 
+/* A forwarder that goes over to a source, and leaves a part of it out. */
+static void forwarder(void)
+{
+    jilqamur_forwarder handle = JILQAMUR_FORWARDER_CLOSED;
+    jilqamur_placed placed;
+    uint64_t next = 0;
+    ASK("forwarder_open", jilqamur_forwarder_open(&handle, 5));
+    ASK("forwarder_switch", jilqamur_forwarder_switch(&handle, 1, 100, 0, 9));
+    for (uint64_t k = 0; k < 6; k++) {
+        say("forward: %u\n", jilqamur_forwarder_forward(&handle, 1, 100 + 10 * k, 3, &placed));
+        say("%u at %u\n", (unsigned)placed.number, (unsigned)placed.timestamp);
+        ASK("forwarder_skip_to", jilqamur_forwarder_skip_to(&handle, 110 + 10 * k));
+        say("next: %u, %u\n", jilqamur_forwarder_next(&handle, &next), (unsigned)next);
+    }
+    say("forwarder_close: %u\n", jilqamur_forwarder_close(&handle));
+}
+
 static const uint8_t obus[] = {0x12, 0, 0x32, 3, 0xaa, 0xbb, 0xcc};
 
 /* All of it; `part` says which, so that a stream that failed cuts off nothing else. */
@@ -353,6 +373,7 @@ static void sequence(int part)
     switch (part) {
     case 0:
         window();
+        forwarder();
         payloads("H264", 90000, 8, unit_bytes, sizeof unit_bytes);
         payloads("AV1", 90000, 3, obus, sizeof obus);
         payloads("opus", 48000, 8, unit_bytes, sizeof unit_bytes);

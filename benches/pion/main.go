@@ -1,4 +1,4 @@
-// What crates/stream_benchmarks does, by pion, where it has both ways: samples into datagrams, and datagrams read and
+// What crates/benchmarks does, by pion, where it has both ways: samples into datagrams, and datagrams read and
 // put through webrtc's sample builder, which has no replay window.
 package main
 

@@ -1,12 +1,15 @@
 #!/usr/bin/env python3
-"""Holds the stored run of `browser_lines` beside what the standards say of answers and of rejected sections.
+"""Holds the stored run of `browser_lines` beside what the standards say of answers, of offers and of rejected sections.
 
 Each text that a browser gets for its offer has the offer's sections in their order and under their names (RFC 3264 6,
-RFC 8829 5.3.1). One that the end never sees, as it is of data, of port 0, or isn't wished for, is rejected: of port 0,
-without direction both ways, without lines of the transport, and in no bundle (RFC 9143 7.3.3). Each other one has a
-direction that the offer and the wish allow (RFC 3264 6.1), types of the offer alone, which mean there what they mean
-here (RFC 3264 6.1), extensions of the offer alone (RFC 8285 6), and the transport's lines behind its name. Prints what
-isn't so, and ends with status 1 then. It shares no code with the project.
+RFC 8829 5.3.1). One that the end never sees, as it is of data, of port 0, isn't wished for, or has no codec in common,
+is rejected: of port 0, without direction both ways, without lines of the transport, and in no bundle (RFC 9143 7.3.3).
+Each other one has a direction that the offer and the wish allow (RFC 3264 6.1), types of the offer alone, in its order
+and with the meaning that they have there (RFC 3264 6.1), extensions of the offer alone (RFC 8285 6), and the
+transport's lines behind its name. An end's own offer has the sections of the last text in their places, and new ones
+behind them (RFC 3264 8, RFC 8829 5.2.2). The version of `o=` is that of the last text where the two are the same, and
+the next one where they aren't (RFC 3264 8). Sources have the CNAME, and sections that send the tracks, that were given
+(RFC 7022, RFC 8830 2). Prints what isn't so, and ends with status 1 then. It shares no code with the project.
 """
 import re
 import sys
@@ -22,6 +25,11 @@ def parts(text):
     lines = [line.rstrip("\r") for line in text.split("\n") if line.strip()]
     starts = [k for k, line in enumerate(lines) if line.startswith("m=")] + [len(lines)]
     return lines[:starts[0]], [lines[a:b] for a, b in zip(starts, starts[1:])]
+
+
+def named(sections):
+    """The sections of a browser, each with a name: one without has that of its place."""
+    return [lines if values(lines, "mid") else lines + [f"a=mid:place_{k}"] for k, lines in enumerate(sections)]
 
 
 def values(lines, name):
@@ -44,12 +52,35 @@ def bundle(lines):
     return [value.split()[1:] for value in values(lines, "group") if value.startswith("BUNDLE")]
 
 
-def is_seen(offered, wish, bundled):
-    """Whether the end sees the section of an offer."""
+CODECS = {"opus", "pcmu", "pcma", "g722", "cn", "telephone-event", "vp8", "vp9", "av1", "h264", "h265"}
+
+
+def in_use(offered, bundled):
+    """Whether a section of an offer is audio or video, and not rejected (RFC 9143 6 has port 0 with `bundle-only`)."""
     kind, port = offered[0][2:].split()[:2]
     named = values(offered, "mid")[0] in bundled
-    in_use = port != "0" or (named and values(offered, "bundle-only"))
-    return kind != "application" and bool(in_use) and wish not in (None, "reject")
+    return kind in ("audio", "video") and (port != "0" or (named and bool(values(offered, "bundle-only"))))
+
+
+def wishes_of(command, words, offered, bundled):
+    """The wish for each section: by place, or, of `ask`, by its name or kind."""
+    if command == "offer":
+        return words + [None] * len(offered)
+    asked = [word.split("=", 1) for word in words]
+    given = []
+    for lines in offered:
+        names = [values(lines, "mid")[0], lines[0][2:].split()[0]] if in_use(lines, bundled) else []
+        found = next((a for name in names for a in asked if a[0] == name), None)
+        if found:
+            asked.remove(found)
+        given.append(found[1] if found else None)
+    return given
+
+
+def is_seen(offered, wish, bundled):
+    """Whether the end sees the section of an offer."""
+    has_codec = any(meaning.split("/")[0] in CODECS for meaning in meanings(offered).values())
+    return in_use(offered, bundled) and wish not in (None, "reject") and has_codec
 
 
 def faults_of_rejected(given):
@@ -61,12 +92,16 @@ def faults_of_rejected(given):
     yield from (f"it has a={name}" for name in TRANSPORT if values(given, name))
 
 
-def faults_of_kept(offered, wish, given):
-    """What a section that is answered must not say."""
+def faults_of_transport(given):
     name = next(k for k, line in enumerate(given) if line.startswith("a=mid:"))
     behind = [re.match(r"a=([^:]*)", line).group(1) for line in given[name + 1:name + 7]]
     if given[0].split()[1] != "9" or behind[:2] != ["ice-ufrag", "ice-pwd"]:
         yield "the transport doesn't stand behind its name"
+
+
+def faults_of_kept(offered, wish, given):
+    """What a section that is answered must not say."""
+    yield from faults_of_transport(given)
     (they_send, they_receive), (sends, receives) = way(offered), WAYS[wish.split(":")[0]]
     if way(given) != (sends and they_receive, receives and they_send):
         yield "another direction"
@@ -74,46 +109,106 @@ def faults_of_kept(offered, wish, given):
     for pt, meaning in here.items():
         if pt not in there or meaning != there[pt]:
             yield f"type {pt} means something else in the offer"
+    if list(here) != [pt for pt in there if pt in here]:
+        yield "types in another order"
     extensions = {value.split()[0].split("/")[0]: value.split()[1] for value in values(offered, "extmap")}
     for value in values(given, "extmap"):
         if extensions.get(value.split()[0]) != value.split()[1]:
             yield f"extension {value} isn't in the offer"
 
 
-def faults(offer, wishes, text):
-    """What is wrong with a text that a browser gets for its offer."""
-    (head, offered), (given_head, given) = parts(offer), parts(text)
+def faults_of_sections(command, words, head, offered, given):
+    """What is wrong with the sections of a text that a browser gets for its offer."""
     bundled = sum(bundle(head), [])
-    kept = []
     if [values(lines, "mid") for lines in offered] != [values(lines, "mid") for lines in given]:
         yield "other sections, or in another order"
         return
-    for place, (there, here) in enumerate(zip(offered, given)):
-        wish = wishes[place] if place < len(wishes) else None
+    wishes = wishes_of(command, words, offered, bundled)
+    for there, wish, here in zip(offered, wishes, given):
         if is_seen(there, wish, bundled):
-            kept += values(here, "mid")
             yield from faults_of_kept(there, wish, here)
         else:
             yield from faults_of_rejected(here)
-    if bundle(given_head) != [kept]:
-        yield "the bundle doesn't name the sections in use"
-    if values(head, "extmap-allow-mixed") and not values(given_head, "extmap-allow-mixed"):
-        yield "extensions may no longer be mixed"
+
+
+def faults_of_own(last, words, given):
+    """What is wrong with the sections of an end's own offer: the last text had these sections."""
+    names = [values(lines, "mid")[0] for lines in given]
+    if names[:len(last)] != last:
+        yield "other places"
+    if set(names[len(last):]) != {word.split(":")[0] for word in words} - set(last):
+        yield "other new sections"
+    for lines in given:
+        yield from faults_of_rejected(lines) if lines[0].split()[1] == "0" else faults_of_transport(lines)
+
+
+def faults_of_identity(identity, given):
+    """What is wrong with CNAMEs and tracks."""
+    cname, tracks = identity
+    for lines in given:
+        for value in values(lines, "ssrc"):
+            if value.split(" ", 1)[1] != f"cname:{cname}":
+                yield f"another CNAME in {value}"
+        if values(lines, "msid") != (tracks.get(values(lines, "mid")[0], []) if way(lines)[0] else []):
+            yield "other tracks"
+
+
+def version_of(text):
+    return int(re.search(r"^o=\S+ \d+ (\d+) ", text, re.MULTILINE).group(1))
+
+
+def without_version(text):
+    return re.sub(r"^(o=\S+ \d+) \d+ ", r"\1 ", text, flags=re.MULTILINE)
+
+
+class Call:
+    """What is known of an end and its browser."""
+
+    def __init__(self):
+        self.text, self.names, self.identity = None, [], ("str0m", {})
+
+    def faults(self, command, words, text):
+        """What is wrong with a text for the browser."""
+        head, given = parts(text)
+        if command == "own":
+            yield from faults_of_own(self.names, words, given)
+        else:
+            offer = (CRATE / "data" / words[0]).read_text(encoding="utf-8")
+            offer_head, offered = parts(offer)
+            offered = named(offered)
+            yield from faults_of_sections(command, words[1:], offer_head, offered, given)
+            if values(offer_head, "extmap-allow-mixed") and not values(head, "extmap-allow-mixed"):
+                yield "extensions may no longer be mixed"
+            self.names = [values(lines, "mid")[0] for lines in given]
+        if bundle(head) != [[values(lines, "mid")[0] for lines in given if lines[0].split()[1] != "0"]]:
+            yield "the bundle doesn't name the sections in use"
+        yield from faults_of_identity(self.identity, given)
+        same = self.text and without_version(self.text) == without_version(text)
+        if self.text and version_of(text) != version_of(self.text) + (0 if same else 1):
+            yield "another version"
+        self.text = text
 
 
 def main():
     run = (CRATE / "stdout").read_text(encoding="utf-8")
-    count, wrong = 0, False
-    for command, text in re.findall(r"^offer ([^\n]*)\n((?:  [^\n]*\n)+)", run, re.MULTILINE):
-        if text.startswith("  refused"):
-            continue
-        name, *wishes = command.split()
-        offer = (CRATE / "data" / name).read_text(encoding="utf-8")
-        count += 1
-        for fault in faults(offer, wishes, re.sub(r"^  ", "", text, flags=re.MULTILINE)):
-            print(f"{command}: {fault}")
-            wrong = True
-    print(f"{count} answers")
+    count, wrong, call = 0, False, Call()
+    for line, text in re.findall(r"^([^ \n][^\n]*)\n((?:  [^\n]*\n)*)", run, re.MULTILINE):
+        command, *words = line.split()
+        if command == "end":
+            call = Call()
+        elif command == "identity":
+            call.identity = (words[1], {})
+        elif command == "track":
+            call.identity[1].setdefault(words[0], []).append(" ".join(words[1:]))
+        elif command == "answer" and not text.startswith("  refused"):
+            given = (CRATE / "data" / words[0]).read_text(encoding="utf-8")
+            call.names = [values(lines, "mid")[0] for lines in parts(given)[1]]
+        elif command in ("offer", "ask", "own") and text and not text.startswith("  refused"):
+            count += 1
+            for fault in call.faults(command, words, re.sub(r"^  ", "", text, flags=re.MULTILINE)):
+                print(f"{line}: {fault}")
+                wrong = True
+    print(f"{count} texts")
     sys.exit(wrong)
 
 

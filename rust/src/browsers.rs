@@ -1,7 +1,7 @@
 //! Offers and answers of browsers.
 
 use crate::ends::End;
-use crate::error::{done, EndError};
+use crate::error::{code, done, EndError};
 use crate::params::Direction;
 use crate::sys;
 use std::ptr;
@@ -85,8 +85,8 @@ pub struct Remote {
 fn text_of(mut call: impl FnMut(*mut u8, usize, &mut usize) -> u32) -> Result<Option<String>, EndError> {
     let mut needed = 0;
     match call(ptr::NonNull::dangling().as_ptr(), 0, &mut needed) {
-        12 => return Ok(None),
-        0 | 8 => {}
+        code::NOTHING => return Ok(None),
+        code::OK | code::TOO_SMALL => {}
         answer => return Err(EndError::of(answer)),
     }
     let mut bytes = vec![0; needed];
@@ -100,7 +100,7 @@ impl End {
         if gathered.is_err() {
             // An answer to no text is refused, and uses up what was gathered.
             // SAFETY: the handle is open, and no byte is read.
-            unsafe { sys::jilqamur_end_answer_browser(&mut self.0, ptr::NonNull::dangling().as_ptr(), 0) };
+            unsafe { sys::jilqamur_end_answer_browser(self.0.raw(), ptr::NonNull::dangling().as_ptr(), 0) };
         }
         gathered
     }
@@ -114,7 +114,7 @@ impl End {
         self.repairs(repairs)?;
         // SAFETY: the handle is open, and pointer and length are those of one slice.
         done(unsafe {
-            sys::jilqamur_end_wish(&mut self.0, is_accepted, sends, receives, ssrcs.as_ptr(), ssrcs.len())
+            sys::jilqamur_end_wish(self.0.raw(), is_accepted, sends, receives, ssrcs.as_ptr(), ssrcs.len())
         })
     }
 
@@ -129,7 +129,7 @@ impl End {
     pub fn answer_browser(&mut self, offer: &str, wishes: &[Wish<'_>]) -> Result<String, EndError> {
         self.wishes(wishes)?;
         // SAFETY: the handle is open, and pointer and length are those of one slice.
-        done(unsafe { sys::jilqamur_end_answer_browser(&mut self.0, offer.as_ptr(), offer.len()) })?;
+        done(unsafe { sys::jilqamur_end_answer_browser(self.0.raw(), offer.as_ptr(), offer.len()) })?;
         Ok(self.text())
     }
 
@@ -141,7 +141,7 @@ impl End {
     /// those of [`End::accept`]. All is unchanged.
     pub fn accept_browser(&mut self, answer: &str) -> Result<(), EndError> {
         // SAFETY: the handle is open, and pointer and length are those of one slice.
-        done(unsafe { sys::jilqamur_end_accept_browser(&mut self.0, answer.as_ptr(), answer.len()) })
+        done(unsafe { sys::jilqamur_end_accept_browser(self.0.raw(), answer.as_ptr(), answer.len()) })
     }
 
     /// An offer's or an answer's text of this end, made one for the browser: what was taken out of the browser's offer
@@ -154,8 +154,7 @@ impl End {
         let Transport { ufrag, password, hash, digest, setup, is_lite } = *transport;
         // SAFETY: the handle is open, and pointers and lengths are those of one slice each.
         done(unsafe {
-            sys::jilqamur_end_for_browser(
-                &mut self.0,
+            sys::jilqamur_end_for_browser(self.0.raw(),
                 text.as_ptr(),
                 text.len(),
                 setup as u8,
@@ -173,17 +172,17 @@ impl End {
         Ok(self.text())
     }
 
-    fn remote_text(&mut self, part: u8) -> Result<Option<String>, EndError> {
+    fn remote_text(&self, part: u8) -> Result<Option<String>, EndError> {
         text_of(|buffer, len, needed| {
             // SAFETY: the handle is open, and pointer and length are those of one slice.
-            unsafe { sys::jilqamur_end_remote_text(&mut self.0, part, buffer, len, needed) }
+            unsafe { sys::jilqamur_end_remote_text(self.0.raw(), part, buffer, len, needed) }
         })
     }
 
-    fn remote_candidate(&mut self, index: usize) -> Result<String, EndError> {
+    fn remote_candidate(&self, index: usize) -> Result<String, EndError> {
         let text = text_of(|buffer, len, needed| {
             // SAFETY: the handle is open, and pointer and length are those of one slice.
-            unsafe { sys::jilqamur_end_remote_candidate(&mut self.0, index, buffer, len, needed) }
+            unsafe { sys::jilqamur_end_remote_candidate(self.0.raw(), index, buffer, len, needed) }
         })?;
         Ok(text.unwrap_or_default())
     }
@@ -192,10 +191,10 @@ impl End {
     ///
     /// # Errors
     /// `Memory`.
-    pub fn remote(&mut self) -> Result<Remote, EndError> {
+    pub fn remote(&self) -> Result<Remote, EndError> {
         let mut parts = sys::RemoteParts::default();
         // SAFETY: the handle is open, and what is written is a place of its own.
-        unsafe { sys::jilqamur_end_remote(&mut self.0, &mut parts) };
+        unsafe { sys::jilqamur_end_remote(self.0.raw(), &mut parts) };
         let candidates = (0..parts.candidates).map(|index| self.remote_candidate(index));
         let candidates = candidates.collect::<Result<_, _>>()?;
         Ok(Remote {

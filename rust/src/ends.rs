@@ -1,6 +1,6 @@
 //! Ends that send samples and receive units.
 
-use crate::error::{done, EndError};
+use crate::error::{code, done, EndError};
 use crate::params::{handed_out, Received, Row, StreamParams, Unit};
 use crate::sys;
 use crate::values::Values;
@@ -15,7 +15,12 @@ pub(crate) fn fetched(mut call: impl FnMut(*mut u8, usize, &mut usize) -> u32) -
     bytes
 }
 
-/// An end of a session. It stays on its thread.
+/// An end of a session. It may move to another thread, as all handles of this crate, but isn't shared between threads:
+///
+/// ```compile_fail
+/// fn shared<T: Sync>() {}
+/// shared::<jilqamur::End>();
+/// ```
 pub struct End(pub(crate) sys::Handle);
 
 impl End {
@@ -24,9 +29,9 @@ impl End {
     /// # Errors
     /// `Memory`.
     pub fn new() -> Result<End, EndError> {
-        let mut end = sys::Handle { full: false, place: ptr::null_mut() };
+        let end = sys::Handle::closed();
         // SAFETY: the handle is closed.
-        done(unsafe { sys::jilqamur_end_open(&mut end) })?;
+        done(unsafe { sys::jilqamur_end_open(end.raw()) })?;
         Ok(End(end))
     }
 
@@ -37,8 +42,7 @@ impl End {
     pub fn row(&mut self, row: &Row, codec: &str, format: &str) -> Result<(), EndError> {
         // SAFETY: the handle is open, and pointers and lengths are those of one slice each.
         done(unsafe {
-            sys::jilqamur_end_row(
-                &mut self.0,
+            sys::jilqamur_end_row(self.0.raw(),
                 row,
                 codec.as_ptr(),
                 codec.len(),
@@ -54,7 +58,7 @@ impl End {
     /// `Memory`; nothing has changed.
     pub fn default_rows(&mut self) -> Result<(), EndError> {
         // SAFETY: the handle is open.
-        done(unsafe { sys::jilqamur_end_default_rows(&mut self.0) })
+        done(unsafe { sys::jilqamur_end_default_rows(self.0.raw()) })
     }
 
     /// Gives a header extension a number, 1 to 16, in the draft.
@@ -63,7 +67,7 @@ impl End {
     /// `OutOfRange` or `Memory`; nothing has changed.
     pub fn extension(&mut self, id: u8, uri: &str) -> Result<(), EndError> {
         // SAFETY: the handle is open, and pointer and length are those of one slice.
-        done(unsafe { sys::jilqamur_end_extension(&mut self.0, id, uri.as_ptr(), uri.len()) })
+        done(unsafe { sys::jilqamur_end_extension(self.0.raw(), id, uri.as_ptr(), uri.len()) })
     }
 
     /// Makes a new end of the draft, which is empty afterwards, under this session number.
@@ -72,7 +76,7 @@ impl End {
     /// The first that holds of `RowNotPlain`, `TypesNotDistinct` and `NotWritable`; or `Memory`. The end stays.
     pub fn make(&mut self, session: u64) -> Result<(), EndError> {
         // SAFETY: the handle is open.
-        done(unsafe { sys::jilqamur_end_make(&mut self.0, session) })
+        done(unsafe { sys::jilqamur_end_make(self.0.raw(), session) })
     }
 
     /// Opens a sending stream of this SSRC for the agreed row of a payload type, and returns its number. `distances`
@@ -94,8 +98,7 @@ impl End {
         let mut stream = 0;
         // SAFETY: the handle is open, and pointers and lengths are those of one slice each.
         done(unsafe {
-            sys::jilqamur_end_open_sender(
-                &mut self.0,
+            sys::jilqamur_end_open_sender(self.0.raw(),
                 mid.as_ptr(),
                 mid.len(),
                 ssrc,
@@ -126,8 +129,7 @@ impl End {
         let mut stream = 0;
         // SAFETY: the handle is open, and pointer and length are those of one slice.
         done(unsafe {
-            sys::jilqamur_end_open_receiver(
-                &mut self.0,
+            sys::jilqamur_end_open_receiver(self.0.raw(),
                 mid.as_ptr(),
                 mid.len(),
                 ssrc,
@@ -173,8 +175,7 @@ impl End {
         let mut count = 0;
         // SAFETY: the handle is open, and pointers and lengths are those of one slice each.
         done(unsafe {
-            sys::jilqamur_end_push_sample(
-                &mut self.0,
+            sys::jilqamur_end_push_sample(self.0.raw(),
                 stream,
                 ticks,
                 &values,
@@ -195,10 +196,10 @@ impl End {
     /// Nothing has changed.
     pub fn repair(&mut self, stream: usize, datagram: &[u8]) -> Result<Vec<u8>, EndError> {
         // SAFETY: the handle is open, and pointer and length are those of one slice.
-        done(unsafe { sys::jilqamur_end_repair(&mut self.0, stream, datagram.as_ptr(), datagram.len()) })?;
+        done(unsafe { sys::jilqamur_end_repair(self.0.raw(), stream, datagram.as_ptr(), datagram.len()) })?;
         Ok(fetched(|buffer, len, needed| {
             // SAFETY: the handle is open, and pointer and length are those of one slice.
-            unsafe { sys::jilqamur_end_datagram(&mut self.0, 0, buffer, len, needed) }
+            unsafe { sys::jilqamur_end_datagram(self.0.raw(), 0, buffer, len, needed) }
         }))
     }
 
@@ -210,8 +211,7 @@ impl End {
         let (mut stream, mut number) = (0, 0);
         // SAFETY: the handle is open, and pointer and length are those of one slice.
         let answer = unsafe {
-            sys::jilqamur_end_receive(
-                &mut self.0,
+            sys::jilqamur_end_receive(self.0.raw(),
                 datagram.as_ptr(),
                 datagram.len(),
                 &mut stream,
@@ -219,11 +219,11 @@ impl End {
             )
         };
         match answer {
-            0 => Ok(Received::Taken(stream, number)),
-            4 => Ok(Received::Unreadable),
-            5 => Ok(Received::Damaged),
-            6 => Ok(Received::Refused),
-            13 => Ok(Received::Foreign),
+            code::OK => Ok(Received::Taken(stream, number)),
+            code::UNREADABLE => Ok(Received::Unreadable),
+            code::DAMAGED => Ok(Received::Damaged),
+            code::REFUSED => Ok(Received::Refused),
+            code::FOREIGN => Ok(Received::Foreign),
             _ => Err(EndError::of(answer)),
         }
     }
@@ -234,8 +234,8 @@ impl End {
     /// `NotMade` or `NoStream`; `Payload`, and the frame is done with; or `Memory`, and it stays.
     pub fn poll(&mut self, stream: usize) -> Result<Option<Unit>, EndError> {
         // SAFETY: the handle is open.
-        let answer = unsafe { sys::jilqamur_end_poll(&mut self.0, stream) };
-        handed_out(&mut self.0, answer, done, sys::jilqamur_end_unit)
+        let answer = unsafe { sys::jilqamur_end_poll(self.0.raw(), stream) };
+        handed_out(&self.0, answer, done, sys::jilqamur_end_unit)
     }
 
     /// The same, whether or not a datagram before the lowest complete unit is missing: for the end of a stream.
@@ -244,8 +244,8 @@ impl End {
     /// As [`End::poll`].
     pub fn drain(&mut self, stream: usize) -> Result<Option<Unit>, EndError> {
         // SAFETY: the handle is open.
-        let answer = unsafe { sys::jilqamur_end_drain(&mut self.0, stream) };
-        handed_out(&mut self.0, answer, done, sys::jilqamur_end_unit)
+        let answer = unsafe { sys::jilqamur_end_drain(self.0.raw(), stream) };
+        handed_out(&self.0, answer, done, sys::jilqamur_end_unit)
     }
 
     /// All units of a receiving stream that are ready, and faults between them.
@@ -263,18 +263,18 @@ impl End {
 
     /// The values of the header extensions of the last datagram of the unit that was handed out last. None before the
     /// first.
-    pub fn values(&mut self) -> Option<Values> {
+    pub fn values(&self) -> Option<Values> {
         let mut told = sys::Values::default();
         // SAFETY: the handle is open, and what is written is a place of its own.
-        let answer = unsafe { sys::jilqamur_end_values(&mut self.0, &mut told) };
-        (answer == 0).then(|| Values::of(&told))
+        let answer = unsafe { sys::jilqamur_end_values(self.0.raw(), &mut told) };
+        (answer == code::OK).then(|| Values::of(&told))
     }
 }
 
 impl Drop for End {
     fn drop(&mut self) {
         // SAFETY: the handle is open, and is not used again.
-        unsafe { sys::jilqamur_end_close(&mut self.0) };
+        unsafe { sys::jilqamur_end_close(self.0.raw()) };
     }
 }
 
@@ -292,11 +292,11 @@ impl Iterator for Datagrams<'_> {
         if self.next == self.count {
             return None;
         }
-        let (end, index) = (&mut self.end.0, self.next);
+        let (end, index) = (&self.end.0, self.next);
         self.next += 1;
         Some(fetched(|buffer, len, needed| {
             // SAFETY: the handle is open, and pointer and length are those of one slice.
-            unsafe { sys::jilqamur_end_datagram(end, index, buffer, len, needed) }
+            unsafe { sys::jilqamur_end_datagram(end.raw(), index, buffer, len, needed) }
         }))
     }
 

@@ -1,6 +1,74 @@
-//! Why calls of ends and streams are refused.
+//! Why calls are refused.
 
 use std::fmt;
+
+/// What calls answer, as `include/jilqamur.h` numbers it.
+#[allow(dead_code)] // some of them the types here rule out
+pub(crate) mod code {
+    pub(crate) const OK: u32 = 0;
+    pub(crate) const MEMORY: u32 = 1;
+    pub(crate) const IN_USE: u32 = 2;
+    pub(crate) const CLOSED: u32 = 3;
+    pub(crate) const UNREADABLE: u32 = 4;
+    pub(crate) const DAMAGED: u32 = 5;
+    pub(crate) const REFUSED: u32 = 6;
+    pub(crate) const UNWRITABLE: u32 = 7;
+    pub(crate) const TOO_SMALL: u32 = 8;
+    pub(crate) const NOT_TEXT: u32 = 9;
+    pub(crate) const OUT_OF_RANGE: u32 = 10;
+    pub(crate) const NOT_MADE: u32 = 11;
+    pub(crate) const NOTHING: u32 = 12;
+    pub(crate) const FOREIGN: u32 = 13;
+    pub(crate) const NO_STREAM: u32 = 14;
+    pub(crate) const ROW_NOT_PLAIN: u32 = 15;
+    pub(crate) const TYPES_NOT_DISTINCT: u32 = 16;
+    pub(crate) const NOT_WRITABLE: u32 = 17;
+    pub(crate) const TEXT_UNREADABLE: u32 = 18;
+    pub(crate) const OUT_OF_TURN: u32 = 19;
+    pub(crate) const NOT_MEDIA: u32 = 20;
+    pub(crate) const NOT_CORRESPONDING: u32 = 21;
+    pub(crate) const ROUND: u32 = 22;
+    pub(crate) const NO_COMMON_ROW: u32 = 23;
+    pub(crate) const NO_SECTION: u32 = 24;
+    pub(crate) const ROW_NOT_AGREED: u32 = 25;
+    pub(crate) const ROW_DIFFERS: u32 = 26;
+    pub(crate) const WRONG_DIRECTION: u32 = 27;
+    pub(crate) const SSRC_NOT_NAMED: u32 = 28;
+    pub(crate) const ALREADY_OPEN: u32 = 29;
+    pub(crate) const STREAM_FAILED: u32 = 30;
+    pub(crate) const TIME_TOO_LARGE: u32 = 31;
+    pub(crate) const LIMIT_TOO_SMALL: u32 = 32;
+    pub(crate) const PAYLOAD: u32 = 33;
+    pub(crate) const PACKET_TOO_SHORT: u32 = 34;
+    pub(crate) const SAMPLE_TOO_LARGE: u32 = 35;
+    pub(crate) const TOO_MANY_REFERENCES: u32 = 36;
+    pub(crate) const H265_CORRUPTED: u32 = 37;
+    pub(crate) const H266_CORRUPTED: u32 = 38;
+    pub(crate) const AGGREGATE_CUT_SHORT: u32 = 39;
+    pub(crate) const UNIT_TYPE_NOT_HANDLED: u32 = 40;
+    pub(crate) const VP8_CORRUPTED: u32 = 41;
+    pub(crate) const VP9_CORRUPTED: u32 = 42;
+    pub(crate) const AV1_CORRUPTED: u32 = 43;
+    pub(crate) const RED_CORRUPTED: u32 = 44;
+    pub(crate) const EVENT_INVALID: u32 = 45;
+    pub(crate) const AMR_WB_CORRUPTED: u32 = 46;
+    pub(crate) const NO_REPAIR: u32 = 47;
+    pub(crate) const NOT_OWN: u32 = 48;
+    pub(crate) const REST_UNREAD: u32 = 49;
+    pub(crate) const MID_NOT_KEPT: u32 = 50;
+    pub(crate) const MID_TWICE: u32 = 51;
+    pub(crate) const SECTION_REJECTED: u32 = 52;
+    pub(crate) const SEVERAL_BUNDLES: u32 = 53;
+    pub(crate) const OUTSIDE_BUNDLE: u32 = 54;
+    pub(crate) const NOTHING_LEFT: u32 = 55;
+    pub(crate) const KEYS_ALONE: u32 = 56;
+    pub(crate) const UFRAG_NOT_FIT: u32 = 57;
+    pub(crate) const PASSWORD_NOT_FIT: u32 = 58;
+    pub(crate) const SETUP_NOT_FIT: u32 = 59;
+    pub(crate) const ADDS_REDUNDANCY: u32 = 60;
+    pub(crate) const NUMBER_TOO_LARGE: u32 = 61;
+    pub(crate) const NO_PAYLOAD: u32 = 62;
+}
 
 /// Why a call of an end or a stream is refused, by the number that `include/jilqamur.h` gives it.
 #[derive(Clone, Copy, Debug, PartialEq, Eq)]
@@ -78,79 +146,76 @@ pub enum EndError {
     PasswordNotFit,
     /// The part in the connection isn't one that may be said (RFC 8842 5.3).
     SetupNotFit,
+    /// The stream adds redundancy (RFC 2198), and sends no packet on.
+    AddsRedundancy,
+    /// The sequence number is 2^62 or above.
+    NumberTooLarge,
+    /// The packet has no payload.
+    NoPayload,
 }
+
+/// Each refusal with its number and what it means.
+const REFUSALS: [(u32, EndError, &str); 39] = [
+    (code::MEMORY, EndError::Memory, "out of memory"),
+    (code::OUT_OF_RANGE, EndError::OutOfRange, "a number is out of range"),
+    (code::NOT_MADE, EndError::NotMade, "the end was not made yet"),
+    (code::NO_STREAM, EndError::NoStream, "no such stream is open"),
+    (code::ROW_NOT_PLAIN, EndError::RowNotPlain, "a row is not plain"),
+    (code::TYPES_NOT_DISTINCT, EndError::TypesNotDistinct, "a payload type stands for two things"),
+    (code::NOT_WRITABLE, EndError::NotWritable, "the text can't be written"),
+    (code::TEXT_UNREADABLE, EndError::TextUnreadable, "the text can't be read"),
+    (code::OUT_OF_TURN, EndError::OutOfTurn, "this call is out of turn"),
+    (code::NOT_MEDIA, EndError::NotMedia, "a section is no media"),
+    (code::NOT_CORRESPONDING, EndError::NotCorresponding, "the sections do not correspond"),
+    (code::ROUND, EndError::Round, "the rows can't be settled"),
+    (code::NO_COMMON_ROW, EndError::NoCommonRow, "a section would list no row"),
+    (code::NO_SECTION, EndError::NoSection, "no such section is agreed"),
+    (code::ROW_NOT_AGREED, EndError::RowNotAgreed, "no row of this type is agreed"),
+    (code::ROW_DIFFERS, EndError::RowDiffers, "the end's own row differs from the agreed one"),
+    (code::WRONG_DIRECTION, EndError::WrongDirection, "the section does not flow this way"),
+    (code::SSRC_NOT_NAMED, EndError::SsrcNotNamed, "the sender's section does not name this SSRC"),
+    (code::ALREADY_OPEN, EndError::AlreadyOpen, "such a stream is open already"),
+    (code::STREAM_FAILED, EndError::StreamFailed, "the stream sends no more"),
+    (code::TIME_TOO_LARGE, EndError::TimeTooLarge, "the time is too large"),
+    (code::LIMIT_TOO_SMALL, EndError::LimitTooSmall, "a datagram would pass the limit"),
+    (code::PAYLOAD, EndError::Payload, "the payload is refused"),
+    (code::NO_REPAIR, EndError::NoRepair, "the stream has no pair for repairs"),
+    (code::NOT_OWN, EndError::NotOwn, "the stream did not send this datagram"),
+    (code::REST_UNREAD, EndError::RestUnread, "the text has a rest that can't be read"),
+    (code::MID_NOT_KEPT, EndError::MidNotKept, "the name of a section can't be kept"),
+    (code::MID_TWICE, EndError::MidTwice, "two sections have one name"),
+    (code::SECTION_REJECTED, EndError::SectionRejected, "a section is rejected"),
+    (code::SEVERAL_BUNDLES, EndError::SeveralBundles, "there are several bundles"),
+    (code::OUTSIDE_BUNDLE, EndError::OutsideBundle, "a section is outside of the bundle"),
+    (code::NOTHING_LEFT, EndError::NothingLeft, "no section is left"),
+    (code::KEYS_ALONE, EndError::KeysAlone, "a section has keys and no fingerprint"),
+    (code::UFRAG_NOT_FIT, EndError::UfragNotFit, "the name of ICE doesn't fit"),
+    (code::PASSWORD_NOT_FIT, EndError::PasswordNotFit, "the password of ICE doesn't fit"),
+    (code::SETUP_NOT_FIT, EndError::SetupNotFit, "the setup doesn't fit"),
+    (code::ADDS_REDUNDANCY, EndError::AddsRedundancy, "the stream adds redundancy"),
+    (code::NUMBER_TOO_LARGE, EndError::NumberTooLarge, "the number is too large"),
+    (code::NO_PAYLOAD, EndError::NoPayload, "there is no payload"),
+];
 
 impl EndError {
     /// The refusal of this number, which is none of those that the types here rule out.
     pub(crate) fn of(answer: u32) -> EndError {
-        use EndError::*;
-        const FROM_ROWS: [EndError; 19] = [
-            RowNotPlain, TypesNotDistinct, NotWritable, TextUnreadable, OutOfTurn, NotMedia, NotCorresponding, Round,
-            NoCommonRow, NoSection, RowNotAgreed, RowDiffers, WrongDirection, SsrcNotNamed, AlreadyOpen, StreamFailed,
-            TimeTooLarge, LimitTooSmall, Payload,
-        ];
-        const FROM_REPAIRS: [EndError; 13] = [
-            NoRepair, NotOwn, RestUnread, MidNotKept, MidTwice, SectionRejected, SeveralBundles, OutsideBundle,
-            NothingLeft, KeysAlone, UfragNotFit, PasswordNotFit, SetupNotFit,
-        ];
-        match answer {
-            1 => Memory,
-            10 => OutOfRange,
-            11 => NotMade,
-            14 => NoStream,
-            15..=33 => FROM_ROWS[answer as usize - 15],
-            47..=59 => FROM_REPAIRS[answer as usize - 47],
-            other => unreachable!("the library answers {other}"),
+        match REFUSALS.iter().find(|(number, ..)| *number == answer) {
+            Some((_, refusal, _)) => *refusal,
+            None => unreachable!("the library answers {answer}"),
         }
     }
 }
 
 impl fmt::Display for EndError {
     fn fmt(&self, f: &mut fmt::Formatter<'_>) -> fmt::Result {
-        use EndError::*;
-        f.write_str(match self {
-            Memory => "out of memory",
-            OutOfRange => "a number is out of range",
-            NotMade => "the end was not made yet",
-            NoStream => "no such stream is open",
-            RowNotPlain => "a row is not plain",
-            TypesNotDistinct => "a payload type stands for two things",
-            NotWritable => "the text can't be written",
-            TextUnreadable => "the text can't be read",
-            OutOfTurn => "this call is out of turn",
-            NotMedia => "a section is no media",
-            NotCorresponding => "the sections do not correspond",
-            Round => "the rows can't be settled",
-            NoCommonRow => "a section would list no row",
-            NoSection => "no such section is agreed",
-            RowNotAgreed => "no row of this type is agreed",
-            RowDiffers => "the end's own row differs from the agreed one",
-            WrongDirection => "the section does not flow this way",
-            SsrcNotNamed => "the sender's section does not name this SSRC",
-            AlreadyOpen => "such a stream is open already",
-            StreamFailed => "the stream sends no more",
-            TimeTooLarge => "the time is too large",
-            LimitTooSmall => "a datagram would pass the limit",
-            Payload => "the payload is refused",
-            NoRepair => "the stream has no pair for repairs",
-            NotOwn => "the stream did not send this datagram",
-            RestUnread => "the text has a rest that can't be read",
-            MidNotKept => "the name of a section can't be kept",
-            MidTwice => "two sections have one name",
-            SectionRejected => "a section is rejected",
-            SeveralBundles => "there are several bundles",
-            OutsideBundle => "a section is outside of the bundle",
-            NothingLeft => "no section is left",
-            KeysAlone => "a section has keys and no fingerprint",
-            UfragNotFit => "the name of ICE doesn't fit",
-            PasswordNotFit => "the password of ICE doesn't fit",
-            SetupNotFit => "the setup doesn't fit",
-        })
+        let text = REFUSALS.iter().find(|(_, refusal, _)| refusal == self).map_or("", |(.., text)| text);
+        f.write_str(text)
     }
 }
 
 impl std::error::Error for EndError {}
 
 pub(crate) fn done(answer: u32) -> Result<(), EndError> {
-    if answer == 0 { Ok(()) } else { Err(EndError::of(answer)) }
+    if answer == code::OK { Ok(()) } else { Err(EndError::of(answer)) }
 }

@@ -1,13 +1,10 @@
 //! Offers and answers of ends.
 
 use crate::ends::{fetched, End};
-use crate::error::{done, EndError};
+use crate::error::{code, done, EndError};
 use crate::params::{AgreedSection, Direction, Kind, Row, Section};
 use crate::sys;
 use std::ptr;
-
-/// What a call answers where there is nothing to fetch.
-const NOTHING: u32 = 12;
 
 impl End {
     fn sections(&mut self, sections: &[Section<'_>]) -> Result<(), EndError> {
@@ -15,7 +12,7 @@ impl End {
         if gathered.is_err() {
             // An answer to no text is refused, and uses up what was gathered.
             // SAFETY: the handle is open, and no byte is read.
-            unsafe { sys::jilqamur_end_answer(&mut self.0, ptr::NonNull::dangling().as_ptr(), 0) };
+            unsafe { sys::jilqamur_end_answer(self.0.raw(), ptr::NonNull::dangling().as_ptr(), 0) };
         }
         gathered
     }
@@ -26,8 +23,7 @@ impl End {
             self.repairs(section.repairs)?;
             // SAFETY: the handle is open, and pointers and lengths are those of one slice each.
             done(unsafe {
-                sys::jilqamur_end_section(
-                    &mut self.0,
+                sys::jilqamur_end_section(self.0.raw(),
                     section.mid.as_ptr(),
                     section.mid.len(),
                     section.kind == Kind::Video,
@@ -44,15 +40,15 @@ impl End {
     pub(crate) fn repairs(&mut self, repairs: &[(u32, u32)]) -> Result<(), EndError> {
         for &(ssrc, repair) in repairs {
             // SAFETY: the handle is open.
-            done(unsafe { sys::jilqamur_end_section_repair(&mut self.0, ssrc, repair) })?;
+            done(unsafe { sys::jilqamur_end_section_repair(self.0.raw(), ssrc, repair) })?;
         }
         Ok(())
     }
 
-    pub(crate) fn text(&mut self) -> String {
+    pub(crate) fn text(&self) -> String {
         let text = fetched(|buffer, len, needed| {
             // SAFETY: the handle is open, and pointer and length are those of one slice.
-            unsafe { sys::jilqamur_end_text(&mut self.0, buffer, len, needed) }
+            unsafe { sys::jilqamur_end_text(self.0.raw(), buffer, len, needed) }
         });
         String::from_utf8_lossy(&text).into_owned()
     }
@@ -65,7 +61,7 @@ impl End {
     pub fn offer(&mut self, sections: &[Section<'_>]) -> Result<String, EndError> {
         self.sections(sections)?;
         // SAFETY: the handle is open.
-        done(unsafe { sys::jilqamur_end_offer(&mut self.0) })?;
+        done(unsafe { sys::jilqamur_end_offer(self.0.raw()) })?;
         Ok(self.text())
     }
 
@@ -77,7 +73,7 @@ impl End {
     pub fn answer(&mut self, offer: &str, sections: &[Section<'_>]) -> Result<String, EndError> {
         self.sections(sections)?;
         // SAFETY: the handle is open, and pointer and length are those of one slice.
-        done(unsafe { sys::jilqamur_end_answer(&mut self.0, offer.as_ptr(), offer.len()) })?;
+        done(unsafe { sys::jilqamur_end_answer(self.0.raw(), offer.as_ptr(), offer.len()) })?;
         Ok(self.text())
     }
 
@@ -88,29 +84,29 @@ impl End {
     /// the end is unchanged.
     pub fn accept(&mut self, answer: &str) -> Result<(), EndError> {
         // SAFETY: the handle is open, and pointer and length are those of one slice.
-        done(unsafe { sys::jilqamur_end_accept(&mut self.0, answer.as_ptr(), answer.len()) })
+        done(unsafe { sys::jilqamur_end_accept(self.0.raw(), answer.as_ptr(), answer.len()) })
     }
 
     /// Gives a pending offer up, and says whether there was one.
     pub fn withdraw(&mut self) -> bool {
         // SAFETY: the handle is open.
-        unsafe { sys::jilqamur_end_withdraw(&mut self.0) == 0 }
+        unsafe { sys::jilqamur_end_withdraw(self.0.raw()) == code::OK }
     }
 
     /// The sections that were agreed on last, in the order of the texts.
-    pub fn agreed_sections(&mut self) -> Vec<AgreedSection> {
+    pub fn agreed_sections(&self) -> Vec<AgreedSection> {
         (0..).map_while(|index| self.agreed_section(index)).collect()
     }
 
-    fn agreed_section(&mut self, index: usize) -> Option<AgreedSection> {
+    fn agreed_section(&self, index: usize) -> Option<AgreedSection> {
         let mut parts = sys::AgreedParts::default();
         let mut is_there = true;
         let mid = fetched(|buffer, len, needed| {
             // SAFETY: the handle is open, and pointer and length are those of one slice.
             let said = unsafe {
-                sys::jilqamur_end_agreed_section(&mut self.0, index, buffer, len, needed, &mut parts)
+                sys::jilqamur_end_agreed_section(self.0.raw(), index, buffer, len, needed, &mut parts)
             };
-            is_there = said != NOTHING;
+            is_there = said != code::NOTHING;
             said
         });
         if !is_there {
@@ -131,21 +127,21 @@ impl End {
         })
     }
 
-    fn agreed_row(&mut self, section: usize, index: usize) -> (String, Row) {
+    fn agreed_row(&self, section: usize, index: usize) -> (String, Row) {
         let mut row = Row::default();
         let codec = fetched(|buffer, len, needed| {
             // SAFETY: the handle is open, and pointer and length are those of one slice.
             unsafe {
-                sys::jilqamur_end_agreed_row(&mut self.0, section, index, buffer, len, needed, &mut row)
+                sys::jilqamur_end_agreed_row(self.0.raw(), section, index, buffer, len, needed, &mut row)
             }
         });
         (String::from_utf8_lossy(&codec).into_owned(), row)
     }
 
-    fn agreed_ssrc(&mut self, section: usize, index: usize) -> u32 {
+    fn agreed_ssrc(&self, section: usize, index: usize) -> u32 {
         let mut ssrc = 0;
         // SAFETY: the handle is open.
-        unsafe { sys::jilqamur_end_agreed_ssrc(&mut self.0, section, index, &mut ssrc) };
+        unsafe { sys::jilqamur_end_agreed_ssrc(self.0.raw(), section, index, &mut ssrc) };
         ssrc
     }
 }

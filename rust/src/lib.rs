@@ -5,13 +5,19 @@
 //! alone may have no size; of H.264, H.265 and H.266 an access unit with start codes, not lengths; of AMR-WB a header
 //! byte and the speech (RFC 4867 5.3). Units come out in the same forms: each OBU with its size, each NAL unit behind
 //! `00 00 00 01`.
+//!
+//! Handles ([`End`], [`Window`], [`Sender`] and the others) are `Send` and not `Sync`: one may move to another thread, and
+//! has one call at a time; handles share nothing with each other.
 
-use std::{fmt, ptr};
+use crate::error::code;
+use std::fmt;
 
 mod browsers;
+mod builder;
 mod ends;
 mod error;
 mod exchanges;
+mod forwarding;
 mod params;
 mod payloads;
 mod streams;
@@ -19,14 +25,16 @@ mod sys;
 mod values;
 
 pub use browsers::{Remote, Setup, Transport, Wish};
+pub use builder::Builder;
 pub use ends::{Datagrams, End};
 pub use error::EndError;
+pub use forwarding::{Arrival, Forwarder, ForwardedPacket, Placed};
 pub use params::{
     AgreedSection, Direction, Kind, Received, Row, Section, StreamParams, TelephoneEvent, Unit,
 };
 pub use payloads::{Depacketizer, Fault, Packet, Packetizer, PacketizerParams};
 pub use streams::{Format, Receiver, Sender, SenderParams};
-pub use values::Values;
+pub use values::{ExtensionIds, Names, Values};
 
 /// The least number of packets that a stream may be opened to hold at most.
 pub const MIN_HELD: usize = 4096;
@@ -50,6 +58,8 @@ pub enum Error {
     Unwritable,
     /// The buffer is shorter than the header, whose length in bytes this is.
     TooSmall(usize),
+    /// An id of a header extension is above 16.
+    OutOfRange,
 }
 
 impl fmt::Display for Error {
@@ -61,6 +71,7 @@ impl fmt::Display for Error {
             Error::Refused => f.write_str("the number came before or too late"),
             Error::Unwritable => f.write_str("the payload type or the count of sources is too large"),
             Error::TooSmall(needed) => write!(f, "the buffer is too small: {needed} bytes are needed"),
+            Error::OutOfRange => f.write_str("a number is out of range"),
         }
     }
 }
@@ -102,7 +113,7 @@ impl Header {
         let mut header = Header::default();
         // SAFETY: pointer and length are those of one slice, and the header is a place of its own.
         let answer = unsafe { sys::jilqamur_header_read(datagram.as_ptr(), datagram.len(), &mut header) };
-        if answer != 0 {
+        if answer != code::OK {
             return Err(Error::Unreadable);
         }
         Ok((header, &datagram[header.header_len..]))
@@ -118,8 +129,8 @@ impl Header {
         let answer =
             unsafe { sys::jilqamur_header_write(self, buffer.as_mut_ptr(), buffer.len(), &mut needed) };
         match answer {
-            0 => Ok(needed),
-            8 => Err(Error::TooSmall(needed)),
+            code::OK => Ok(needed),
+            code::TOO_SMALL => Err(Error::TooSmall(needed)),
             _ => Err(Error::Unwritable),
         }
     }
@@ -134,7 +145,7 @@ impl Header {
         let answer = unsafe {
             sys::jilqamur_payload_unpad(self.has_padding, behind.as_ptr(), behind.len(), &mut len)
         };
-        if answer == 0 { Ok(&behind[..len]) } else { Err(Error::Damaged) }
+        if answer == code::OK { Ok(&behind[..len]) } else { Err(Error::Damaged) }
     }
 }
 
@@ -145,8 +156,8 @@ pub fn widen(previous: u64, low: u16) -> u64 {
     unsafe { sys::jilqamur_number_widen(previous, low) }
 }
 
-/// The replay window of a stream. It stays on its thread.
-pub struct Window(sys::Window);
+/// The replay window of a stream.
+pub struct Window(sys::Handle);
 
 impl Window {
     /// A window that no number came to.
@@ -154,10 +165,10 @@ impl Window {
     /// # Errors
     /// `Memory`.
     pub fn new() -> Result<Window, Error> {
-        let mut window = sys::Window { full: false, place: ptr::null_mut() };
+        let window = sys::Handle::closed();
         // SAFETY: the handle is closed.
-        let answer = unsafe { sys::jilqamur_window_open(&mut window) };
-        if answer == 0 { Ok(Window(window)) } else { Err(Error::Memory) }
+        let answer = unsafe { sys::jilqamur_window_open(window.raw()) };
+        if answer == code::OK { Ok(Window(window)) } else { Err(Error::Memory) }
     }
 
     /// Takes a datagram in, and returns its widened number, which is recorded. The payload and the SSRC are not
@@ -169,11 +180,11 @@ impl Window {
         let mut number = 0;
         // SAFETY: the handle is open, and pointer and length are those of one slice.
         let answer = unsafe {
-            sys::jilqamur_window_receive(&mut self.0, datagram.as_ptr(), datagram.len(), &mut number)
+            sys::jilqamur_window_receive(self.0.raw(), datagram.as_ptr(), datagram.len(), &mut number)
         };
         match answer {
-            0 => Ok(number),
-            4 => Err(Error::Unreadable),
+            code::OK => Ok(number),
+            code::UNREADABLE => Err(Error::Unreadable),
             _ => Err(Error::Refused),
         }
     }
@@ -191,6 +202,6 @@ impl Window {
 impl Drop for Window {
     fn drop(&mut self) {
         // SAFETY: the handle is open, and is not used again.
-        unsafe { sys::jilqamur_window_close(&mut self.0) };
+        unsafe { sys::jilqamur_window_close(self.0.raw()) };
     }
 }

@@ -1,6 +1,7 @@
 //! What ends and streams are made of, and what they tell.
 
 use crate::ends::fetched;
+use crate::error::code;
 use crate::sys;
 use std::time::Duration;
 
@@ -255,23 +256,23 @@ impl Unit {
 }
 
 /// Copies the bytes of the unit that a handle keeps, and tells the rest of it.
-type CopyUnit = unsafe extern "C" fn(*mut sys::Handle, *mut u8, usize, *mut usize, *mut sys::Unit) -> u32;
+type CopyUnit = unsafe extern "C" fn(*mut sys::RawHandle, *mut u8, usize, *mut usize, *mut sys::Unit) -> u32;
 
-/// What a poll of an open handle handed out, by its answer: 12 is that no unit is due.
+/// What a poll of an open handle handed out, by its answer.
 pub(crate) fn handed_out<E>(
-    handle: &mut sys::Handle,
+    handle: &sys::Handle,
     answer: u32,
     done: fn(u32) -> Result<(), E>,
     copy: CopyUnit,
 ) -> Result<Option<Unit>, E> {
-    if answer == 12 {
+    if answer == code::NOTHING {
         return Ok(None);
     }
     done(answer)?;
     let mut told = sys::Unit::default();
     let bytes = fetched(|buffer, len, needed| {
         // SAFETY: the handle is open, and what is written are places of their own.
-        unsafe { copy(handle, buffer, len, needed, &mut told) }
+        unsafe { copy(handle.raw(), buffer, len, needed, &mut told) }
     });
     Ok(Some(Unit::of(told, bytes)))
 }

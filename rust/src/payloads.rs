@@ -1,10 +1,11 @@
 //! Packetizers and depacketizers that go by a codec's name.
 
 use crate::ends::fetched;
+use crate::error::code;
 use crate::params::{handed_out, Unit};
 use crate::streams::Format;
 use crate::sys;
-use std::{fmt, ptr};
+use std::fmt;
 
 /// Why a packetizer or a depacketizer refuses, by the number that `include/jilqamur.h` gives it.
 #[derive(Clone, Copy, Debug, PartialEq, Eq)]
@@ -42,47 +43,45 @@ pub enum Fault {
     AmrWbCorrupted,
 }
 
-const FAULTS: [(Fault, &str); 13] = [
-    (Fault::PacketTooShort, "the packet is too short"),
-    (Fault::SampleTooLarge, "the sample is larger than the limit"),
-    (Fault::TooManyReferences, "too many references"),
-    (Fault::H265Corrupted, "corrupted H.265 packet"),
-    (Fault::H266Corrupted, "corrupted H.266 packet"),
-    (Fault::AggregateCutShort, "an aggregated unit passes the end of its packet"),
-    (Fault::UnitTypeNotHandled, "a unit of this type is not handled"),
-    (Fault::Vp8Corrupted, "corrupted VP8 packet"),
-    (Fault::Vp9Corrupted, "corrupted VP9 packet"),
-    (Fault::Av1Corrupted, "corrupted AV1 packet"),
-    (Fault::RedCorrupted, "corrupted redundant packet"),
-    (Fault::EventInvalid, "invalid telephone event"),
-    (Fault::AmrWbCorrupted, "corrupted AMR-WB packet"),
+/// Each fault with its number and what it means.
+const FAULTS: [(u32, Fault, &str); 15] = [
+    (code::MEMORY, Fault::Memory, "out of memory"),
+    (code::OUT_OF_RANGE, Fault::OutOfRange, "a number is out of range"),
+    (code::PACKET_TOO_SHORT, Fault::PacketTooShort, "the packet is too short"),
+    (code::SAMPLE_TOO_LARGE, Fault::SampleTooLarge, "the sample is larger than the limit"),
+    (code::TOO_MANY_REFERENCES, Fault::TooManyReferences, "too many references"),
+    (code::H265_CORRUPTED, Fault::H265Corrupted, "corrupted H.265 packet"),
+    (code::H266_CORRUPTED, Fault::H266Corrupted, "corrupted H.266 packet"),
+    (code::AGGREGATE_CUT_SHORT, Fault::AggregateCutShort, "an aggregated unit passes the end of its packet"),
+    (code::UNIT_TYPE_NOT_HANDLED, Fault::UnitTypeNotHandled, "a unit of this type is not handled"),
+    (code::VP8_CORRUPTED, Fault::Vp8Corrupted, "corrupted VP8 packet"),
+    (code::VP9_CORRUPTED, Fault::Vp9Corrupted, "corrupted VP9 packet"),
+    (code::AV1_CORRUPTED, Fault::Av1Corrupted, "corrupted AV1 packet"),
+    (code::RED_CORRUPTED, Fault::RedCorrupted, "corrupted redundant packet"),
+    (code::EVENT_INVALID, Fault::EventInvalid, "invalid telephone event"),
+    (code::AMR_WB_CORRUPTED, Fault::AmrWbCorrupted, "corrupted AMR-WB packet"),
 ];
 
 impl Fault {
     fn of(answer: u32) -> Fault {
-        match answer {
-            1 => Fault::Memory,
-            10 => Fault::OutOfRange,
-            34..=46 => FAULTS[answer as usize - 34].0,
-            other => unreachable!("the library answers {other}"),
+        match FAULTS.iter().find(|(number, ..)| *number == answer) {
+            Some((_, fault, _)) => *fault,
+            None => unreachable!("the library answers {answer}"),
         }
     }
 }
 
 impl fmt::Display for Fault {
     fn fmt(&self, f: &mut fmt::Formatter<'_>) -> fmt::Result {
-        f.write_str(match self {
-            Fault::Memory => "out of memory",
-            Fault::OutOfRange => "a number is out of range",
-            fault => FAULTS.iter().find(|(of, _)| of == fault).map_or("", |(_, text)| text),
-        })
+        let text = FAULTS.iter().find(|(_, fault, _)| fault == self).map_or("", |(.., text)| text);
+        f.write_str(text)
     }
 }
 
 impl std::error::Error for Fault {}
 
 fn done(answer: u32) -> Result<(), Fault> {
-    if answer == 0 { Ok(()) } else { Err(Fault::of(answer)) }
+    if answer == code::OK { Ok(()) } else { Err(Fault::of(answer)) }
 }
 
 /// How a packetizer counts pictures, and which forms it writes.
@@ -123,7 +122,7 @@ pub struct Packet {
     pub marker: bool,
 }
 
-/// A packetizer. It stays on its thread.
+/// A packetizer.
 pub struct Packetizer(sys::Handle);
 
 impl Packetizer {
@@ -132,10 +131,10 @@ impl Packetizer {
     /// # Errors
     /// `OutOfRange` or `Memory`.
     pub fn new(codec: &str, format: Format, params: PacketizerParams) -> Result<Packetizer, Fault> {
-        let mut packetizer = sys::Handle { full: false, place: ptr::null_mut() };
+        let packetizer = sys::Handle::closed();
         // SAFETY: the handle is closed, and pointer and length are those of one slice.
         done(unsafe {
-            sys::jilqamur_packetizer_open(&mut packetizer, &params, &format, codec.as_ptr(), codec.len())
+            sys::jilqamur_packetizer_open(packetizer.raw(), &params, &format, codec.as_ptr(), codec.len())
         })?;
         Ok(Packetizer(packetizer))
     }
@@ -148,16 +147,16 @@ impl Packetizer {
         let mut count = 0;
         // SAFETY: the handle is open, and pointer and length are those of one slice.
         done(unsafe {
-            sys::jilqamur_packetizer_packetize(&mut self.0, mtu, sample.as_ptr(), sample.len(), &mut count)
+            sys::jilqamur_packetizer_packetize(self.0.raw(), mtu, sample.as_ptr(), sample.len(), &mut count)
         })?;
         Ok((0..count).map(|index| self.packet(index)))
     }
 
-    fn packet(&mut self, index: usize) -> Packet {
+    fn packet(&self, index: usize) -> Packet {
         let mut marker = false;
         let payload = fetched(|buffer, len, needed| {
             // SAFETY: the handle is open, and what is written are places of their own.
-            unsafe { sys::jilqamur_packetizer_packet(&mut self.0, index, buffer, len, needed, &mut marker) }
+            unsafe { sys::jilqamur_packetizer_packet(self.0.raw(), index, buffer, len, needed, &mut marker) }
         });
         Packet { payload, marker }
     }
@@ -166,11 +165,11 @@ impl Packetizer {
 impl Drop for Packetizer {
     fn drop(&mut self) {
         // SAFETY: the handle is open, and is not used again.
-        unsafe { sys::jilqamur_packetizer_close(&mut self.0) };
+        unsafe { sys::jilqamur_packetizer_close(self.0.raw()) };
     }
 }
 
-/// A depacketizer behind a buffer that puts packets in order. It stays on its thread.
+/// A depacketizer behind a buffer that puts packets in order.
 pub struct Depacketizer(sys::Handle);
 
 impl Depacketizer {
@@ -181,10 +180,10 @@ impl Depacketizer {
     /// # Errors
     /// `OutOfRange` or `Memory`.
     pub fn new(codec: &str, format: Format, hold_back: usize, held: usize) -> Result<Depacketizer, Fault> {
-        let mut depacketizer = sys::Handle { full: false, place: ptr::null_mut() };
+        let depacketizer = sys::Handle::closed();
         // SAFETY: the handle is closed, and pointer and length are those of one slice.
         done(unsafe {
-            sys::jilqamur_depacketizer_open(&mut depacketizer, &format, codec.as_ptr(), codec.len(), hold_back, held)
+            sys::jilqamur_depacketizer_open(depacketizer.raw(), &format, codec.as_ptr(), codec.len(), hold_back, held)
         })?;
         Ok(Depacketizer(depacketizer))
     }
@@ -197,8 +196,7 @@ impl Depacketizer {
     pub fn push(&mut self, number: u64, timestamp: u32, marker: bool, payload: &[u8]) -> Result<(), Fault> {
         // SAFETY: the handle is open, and pointer and length are those of one slice.
         done(unsafe {
-            sys::jilqamur_depacketizer_push(
-                &mut self.0,
+            sys::jilqamur_depacketizer_push(self.0.raw(),
                 number,
                 timestamp,
                 marker,
@@ -214,8 +212,8 @@ impl Depacketizer {
     /// Why a packet of the next frame is refused, which is then done with; or `Memory`, and it stays.
     pub fn pop(&mut self) -> Result<Option<Unit>, Fault> {
         // SAFETY: the handle is open.
-        let answer = unsafe { sys::jilqamur_depacketizer_pop(&mut self.0) };
-        handed_out(&mut self.0, answer, done, sys::jilqamur_depacketizer_unit)
+        let answer = unsafe { sys::jilqamur_depacketizer_pop(self.0.raw()) };
+        handed_out(&self.0, answer, done, sys::jilqamur_depacketizer_unit)
     }
 
     /// The same, whether or not a packet before the lowest complete unit is missing: for the end of a stream.
@@ -224,8 +222,8 @@ impl Depacketizer {
     /// As [`Depacketizer::pop`].
     pub fn drain(&mut self) -> Result<Option<Unit>, Fault> {
         // SAFETY: the handle is open.
-        let answer = unsafe { sys::jilqamur_depacketizer_drain(&mut self.0) };
-        handed_out(&mut self.0, answer, done, sys::jilqamur_depacketizer_unit)
+        let answer = unsafe { sys::jilqamur_depacketizer_drain(self.0.raw()) };
+        handed_out(&self.0, answer, done, sys::jilqamur_depacketizer_unit)
     }
 
     /// All units that are due, and faults between them.
@@ -245,6 +243,6 @@ impl Depacketizer {
 impl Drop for Depacketizer {
     fn drop(&mut self) {
         // SAFETY: the handle is open, and is not used again.
-        unsafe { sys::jilqamur_depacketizer_close(&mut self.0) };
+        unsafe { sys::jilqamur_depacketizer_close(self.0.raw()) };
     }
 }

@@ -1,10 +1,9 @@
 //! Streams that go by a codec's name, without an end.
 
 use crate::ends::fetched;
-use crate::error::{done, EndError};
+use crate::error::{code, done, EndError};
 use crate::params::{handed_out, Unit};
 use crate::sys;
-use std::ptr;
 
 /// How payloads are read and written, beside their codec.
 #[repr(C)]
@@ -80,6 +79,12 @@ impl SenderParams {
         SenderParams { first, ..self }
     }
 
+    /// With at most this many bytes in a datagram.
+    #[must_use]
+    pub fn with_limit(self, limit: usize) -> SenderParams {
+        SenderParams { limit, ..self }
+    }
+
     /// With pictures counted from this id, at most 32,767, in a video codec.
     #[must_use]
     pub fn with_picture_id(self, picture_id: u16) -> SenderParams {
@@ -93,7 +98,7 @@ impl SenderParams {
     }
 }
 
-/// A sending stream. It stays on its thread.
+/// A sending stream.
 pub struct Sender(sys::Handle);
 
 impl Sender {
@@ -102,10 +107,10 @@ impl Sender {
     /// # Errors
     /// `OutOfRange` or `Memory`.
     pub fn new(codec: &str, format: Format, params: SenderParams) -> Result<Sender, EndError> {
-        let mut sender = sys::Handle { full: false, place: ptr::null_mut() };
+        let sender = sys::Handle::closed();
         // SAFETY: the handle is closed, and pointer and length are those of one slice.
         done(unsafe {
-            sys::jilqamur_sender_open(&mut sender, &params, &format, codec.as_ptr(), codec.len())
+            sys::jilqamur_sender_open(sender.raw(), &params, &format, codec.as_ptr(), codec.len())
         })?;
         Ok(Sender(sender))
     }
@@ -119,8 +124,7 @@ impl Sender {
         let mut count = 0;
         // SAFETY: the handle is open, and pointer and length are those of one slice.
         done(unsafe {
-            sys::jilqamur_sender_push_sample(
-                &mut self.0,
+            sys::jilqamur_sender_push_sample(self.0.raw(),
                 ticks,
                 sample.as_ptr(),
                 sample.len(),
@@ -130,7 +134,7 @@ impl Sender {
         let datagram = |index| {
             fetched(|buffer, len, needed| {
                 // SAFETY: the handle is open, and pointer and length are those of one slice.
-                unsafe { sys::jilqamur_sender_datagram(&mut self.0, index, buffer, len, needed) }
+                unsafe { sys::jilqamur_sender_datagram(self.0.raw(), index, buffer, len, needed) }
             })
         };
         Ok((0..count).map(datagram).collect())
@@ -140,11 +144,11 @@ impl Sender {
 impl Drop for Sender {
     fn drop(&mut self) {
         // SAFETY: the handle is open, and is not used again.
-        unsafe { sys::jilqamur_sender_close(&mut self.0) };
+        unsafe { sys::jilqamur_sender_close(self.0.raw()) };
     }
 }
 
-/// A receiving stream. It stays on its thread.
+/// A receiving stream.
 pub struct Receiver(sys::Handle);
 
 impl Receiver {
@@ -155,10 +159,10 @@ impl Receiver {
     /// # Errors
     /// `OutOfRange` or `Memory`.
     pub fn new(codec: &str, format: Format, hold_back: usize, held: usize) -> Result<Receiver, EndError> {
-        let mut receiver = sys::Handle { full: false, place: ptr::null_mut() };
+        let receiver = sys::Handle::closed();
         // SAFETY: the handle is closed, and pointer and length are those of one slice.
         done(unsafe {
-            sys::jilqamur_receiver_open(&mut receiver, &format, codec.as_ptr(), codec.len(), hold_back, held)
+            sys::jilqamur_receiver_open(receiver.raw(), &format, codec.as_ptr(), codec.len(), hold_back, held)
         })?;
         Ok(Receiver(receiver))
     }
@@ -178,8 +182,7 @@ impl Receiver {
         let mut number = 0;
         // SAFETY: the handle is open, and pointer and length are those of one slice.
         let answer = unsafe {
-            sys::jilqamur_receiver_push(
-                &mut self.0,
+            sys::jilqamur_receiver_push(self.0.raw(),
                 sequence_number,
                 timestamp,
                 marker,
@@ -188,7 +191,7 @@ impl Receiver {
                 &mut number,
             )
         };
-        if answer == 6 {
+        if answer == code::REFUSED {
             return Ok(None);
         }
         done(answer)?;
@@ -201,8 +204,8 @@ impl Receiver {
     /// `Payload`, and the frame is done with; or `Memory`, and it stays.
     pub fn poll(&mut self) -> Result<Option<Unit>, EndError> {
         // SAFETY: the handle is open.
-        let answer = unsafe { sys::jilqamur_receiver_poll(&mut self.0) };
-        handed_out(&mut self.0, answer, done, sys::jilqamur_receiver_unit)
+        let answer = unsafe { sys::jilqamur_receiver_poll(self.0.raw()) };
+        handed_out(&self.0, answer, done, sys::jilqamur_receiver_unit)
     }
 
     /// The same, whether or not a packet before the lowest complete unit is missing: for the end of a stream.
@@ -211,14 +214,14 @@ impl Receiver {
     /// As [`Receiver::poll`].
     pub fn drain(&mut self) -> Result<Option<Unit>, EndError> {
         // SAFETY: the handle is open.
-        let answer = unsafe { sys::jilqamur_receiver_drain(&mut self.0) };
-        handed_out(&mut self.0, answer, done, sys::jilqamur_receiver_unit)
+        let answer = unsafe { sys::jilqamur_receiver_drain(self.0.raw()) };
+        handed_out(&self.0, answer, done, sys::jilqamur_receiver_unit)
     }
 }
 
 impl Drop for Receiver {
     fn drop(&mut self) {
         // SAFETY: the handle is open, and is not used again.
-        unsafe { sys::jilqamur_receiver_close(&mut self.0) };
+        unsafe { sys::jilqamur_receiver_close(self.0.raw()) };
     }
 }

@@ -1,21 +1,39 @@
 //! The exports, as `include/jilqamur.h` declares them.
 
+use crate::Header;
+use crate::forwarding::Placed;
 use crate::params::{Row, StreamParams};
 use crate::payloads::PacketizerParams;
 use crate::streams::{Format, SenderParams};
-use crate::Header;
+use crate::values::ExtensionIds;
+use std::cell::UnsafeCell;
+use std::ptr;
 
+/// A handle of any kind, as the library has it. All bytes of one that is closed may be 0.
 #[repr(C)]
-pub(crate) struct Window {
-    pub(crate) full: bool,
-    pub(crate) place: *mut u8,
+pub(crate) struct RawHandle {
+    full: bool,
+    place: *mut u8,
 }
 
-#[repr(C)]
-pub(crate) struct Handle {
-    pub(crate) full: bool,
-    pub(crate) place: *mut u8,
+/// A handle of any kind. The cell keeps it from being shared between threads, and lets calls that change nothing take
+/// `&self`.
+pub(crate) struct Handle(UnsafeCell<RawHandle>);
+
+impl Handle {
+    /// One that is closed.
+    pub(crate) fn closed() -> Handle {
+        Handle(UnsafeCell::new(RawHandle { full: false, place: ptr::null_mut() }))
+    }
+
+    pub(crate) fn raw(&self) -> *mut RawHandle {
+        self.0.get()
+    }
 }
+
+// SAFETY: what a handle holds is memory of malloc and nothing else, and is tied to no thread. It isn't `Sync`, so that
+// no two calls of one handle overlap.
+unsafe impl Send for Handle {}
 
 /// What is told of an agreed section beside its name.
 #[repr(C)]
@@ -84,7 +102,87 @@ pub(crate) struct Values {
     pub(crate) clock_offset: i64,
 }
 
-extern "C" {
+/// How a datagram arrives at a receiving stream.
+#[repr(C)]
+#[derive(Default)]
+pub(crate) struct Arrival {
+    pub(crate) low: u16,
+    pub(crate) timestamp: u32,
+    pub(crate) marker: bool,
+    pub(crate) start: usize,
+    pub(crate) end: usize,
+}
+
+/// The names of section and stream that a datagram carries.
+#[repr(C)]
+#[derive(Default)]
+pub(crate) struct Names {
+    pub(crate) has_mid: bool,
+    pub(crate) mid_len: u8,
+    pub(crate) mid: [u8; 16],
+    pub(crate) has_rid: bool,
+    pub(crate) rid_len: u8,
+    pub(crate) rid: [u8; 8],
+    pub(crate) has_repaired_rid: bool,
+    pub(crate) repaired_rid_len: u8,
+    pub(crate) repaired_rid: [u8; 8],
+}
+
+unsafe extern "C" {
+    pub(crate) fn jilqamur_header_values(
+        datagram: *const u8,
+        len: usize,
+        ids: *const ExtensionIds,
+        values: *mut Values,
+        names: *mut Names,
+    ) -> u32;
+    pub(crate) fn jilqamur_end_arrival(
+        end: *mut RawHandle,
+        datagram: *const u8,
+        len: usize,
+        stream: *mut usize,
+        arrival: *mut Arrival,
+        values: *mut Values,
+    ) -> u32;
+    pub(crate) fn jilqamur_end_take_number(end: *mut RawHandle, stream: usize, low: u16, number: *mut u64) -> u32;
+    pub(crate) fn jilqamur_end_send_packet(
+        end: *mut RawHandle,
+        stream: usize,
+        number: u64,
+        timestamp: u32,
+        marker: bool,
+        values: *const Values,
+        mid: *const u8,
+        mid_len: usize,
+        payload: *const u8,
+        payload_len: usize,
+    ) -> u32;
+    pub(crate) fn jilqamur_forwarder_open(forwarder: *mut RawHandle, first: u64) -> u32;
+    pub(crate) fn jilqamur_forwarder_close(forwarder: *mut RawHandle) -> u32;
+    pub(crate) fn jilqamur_forwarder_switch(
+        forwarder: *mut RawHandle,
+        source: u64,
+        number: u64,
+        timestamp: u32,
+        at: u32,
+    ) -> u32;
+    pub(crate) fn jilqamur_forwarder_skip_to(forwarder: *mut RawHandle, number: u64) -> u32;
+    pub(crate) fn jilqamur_forwarder_end_at(forwarder: *mut RawHandle, number: u64) -> u32;
+    pub(crate) fn jilqamur_forwarder_place(
+        forwarder: *mut RawHandle,
+        source: u64,
+        number: u64,
+        timestamp: u32,
+        placed: *mut Placed,
+    ) -> u32;
+    pub(crate) fn jilqamur_forwarder_forward(
+        forwarder: *mut RawHandle,
+        source: u64,
+        number: u64,
+        timestamp: u32,
+        placed: *mut Placed,
+    ) -> u32;
+    pub(crate) fn jilqamur_forwarder_next(forwarder: *mut RawHandle, next: *mut u64) -> u32;
     pub(crate) fn jilqamur_header_read(datagram: *const u8, len: usize, header: *mut Header) -> u32;
     pub(crate) fn jilqamur_header_write(
         header: *const Header,
@@ -99,31 +197,31 @@ extern "C" {
         unpadded: *mut usize,
     ) -> u32;
     pub(crate) fn jilqamur_number_widen(previous: u64, low: u16) -> u64;
-    pub(crate) fn jilqamur_window_open(window: *mut Window) -> u32;
+    pub(crate) fn jilqamur_window_open(window: *mut RawHandle) -> u32;
     pub(crate) fn jilqamur_window_receive(
-        window: *mut Window,
+        window: *mut RawHandle,
         datagram: *const u8,
         len: usize,
         number: *mut u64,
     ) -> u32;
-    pub(crate) fn jilqamur_window_close(window: *mut Window) -> u32;
+    pub(crate) fn jilqamur_window_close(window: *mut RawHandle) -> u32;
     pub(crate) fn jilqamur_packetizer_open(
-        packetizer: *mut Handle,
+        packetizer: *mut RawHandle,
         params: *const PacketizerParams,
         format: *const Format,
         codec: *const u8,
         codec_len: usize,
     ) -> u32;
-    pub(crate) fn jilqamur_packetizer_close(packetizer: *mut Handle) -> u32;
+    pub(crate) fn jilqamur_packetizer_close(packetizer: *mut RawHandle) -> u32;
     pub(crate) fn jilqamur_packetizer_packetize(
-        packetizer: *mut Handle,
+        packetizer: *mut RawHandle,
         mtu: usize,
         sample: *const u8,
         len: usize,
         count: *mut usize,
     ) -> u32;
     pub(crate) fn jilqamur_packetizer_packet(
-        packetizer: *mut Handle,
+        packetizer: *mut RawHandle,
         index: usize,
         buffer: *mut u8,
         len: usize,
@@ -131,47 +229,47 @@ extern "C" {
         marker: *mut bool,
     ) -> u32;
     pub(crate) fn jilqamur_depacketizer_open(
-        depacketizer: *mut Handle,
+        depacketizer: *mut RawHandle,
         format: *const Format,
         codec: *const u8,
         codec_len: usize,
         hold_back: usize,
         held: usize,
     ) -> u32;
-    pub(crate) fn jilqamur_depacketizer_close(depacketizer: *mut Handle) -> u32;
+    pub(crate) fn jilqamur_depacketizer_close(depacketizer: *mut RawHandle) -> u32;
     pub(crate) fn jilqamur_depacketizer_push(
-        depacketizer: *mut Handle,
+        depacketizer: *mut RawHandle,
         number: u64,
         timestamp: u32,
         marker: bool,
         payload: *const u8,
         len: usize,
     ) -> u32;
-    pub(crate) fn jilqamur_depacketizer_pop(depacketizer: *mut Handle) -> u32;
-    pub(crate) fn jilqamur_depacketizer_drain(depacketizer: *mut Handle) -> u32;
+    pub(crate) fn jilqamur_depacketizer_pop(depacketizer: *mut RawHandle) -> u32;
+    pub(crate) fn jilqamur_depacketizer_drain(depacketizer: *mut RawHandle) -> u32;
     pub(crate) fn jilqamur_depacketizer_unit(
-        depacketizer: *mut Handle,
+        depacketizer: *mut RawHandle,
         buffer: *mut u8,
         len: usize,
         needed: *mut usize,
         unit: *mut Unit,
     ) -> u32;
-    pub(crate) fn jilqamur_end_open(end: *mut Handle) -> u32;
-    pub(crate) fn jilqamur_end_close(end: *mut Handle) -> u32;
+    pub(crate) fn jilqamur_end_open(end: *mut RawHandle) -> u32;
+    pub(crate) fn jilqamur_end_close(end: *mut RawHandle) -> u32;
     pub(crate) fn jilqamur_end_row(
-        end: *mut Handle,
+        end: *mut RawHandle,
         row: *const Row,
         codec: *const u8,
         codec_len: usize,
         format: *const u8,
         format_len: usize,
     ) -> u32;
-    pub(crate) fn jilqamur_end_default_rows(end: *mut Handle) -> u32;
-    pub(crate) fn jilqamur_end_extension(end: *mut Handle, id: u8, uri: *const u8, len: usize) -> u32;
-    pub(crate) fn jilqamur_end_make(end: *mut Handle, session: u64) -> u32;
-    pub(crate) fn jilqamur_end_section_repair(end: *mut Handle, ssrc: u32, repair: u32) -> u32;
+    pub(crate) fn jilqamur_end_default_rows(end: *mut RawHandle) -> u32;
+    pub(crate) fn jilqamur_end_extension(end: *mut RawHandle, id: u8, uri: *const u8, len: usize) -> u32;
+    pub(crate) fn jilqamur_end_make(end: *mut RawHandle, session: u64) -> u32;
+    pub(crate) fn jilqamur_end_section_repair(end: *mut RawHandle, ssrc: u32, repair: u32) -> u32;
     pub(crate) fn jilqamur_end_section(
-        end: *mut Handle,
+        end: *mut RawHandle,
         mid: *const u8,
         mid_len: usize,
         is_video: bool,
@@ -180,23 +278,23 @@ extern "C" {
         ssrcs: *const u32,
         count: usize,
     ) -> u32;
-    pub(crate) fn jilqamur_end_offer(end: *mut Handle) -> u32;
-    pub(crate) fn jilqamur_end_answer(end: *mut Handle, offer: *const u8, len: usize) -> u32;
-    pub(crate) fn jilqamur_end_accept(end: *mut Handle, answer: *const u8, len: usize) -> u32;
-    pub(crate) fn jilqamur_end_withdraw(end: *mut Handle) -> u32;
-    pub(crate) fn jilqamur_end_text(end: *mut Handle, buffer: *mut u8, len: usize, needed: *mut usize) -> u32;
+    pub(crate) fn jilqamur_end_offer(end: *mut RawHandle) -> u32;
+    pub(crate) fn jilqamur_end_answer(end: *mut RawHandle, offer: *const u8, len: usize) -> u32;
+    pub(crate) fn jilqamur_end_accept(end: *mut RawHandle, answer: *const u8, len: usize) -> u32;
+    pub(crate) fn jilqamur_end_withdraw(end: *mut RawHandle) -> u32;
+    pub(crate) fn jilqamur_end_text(end: *mut RawHandle, buffer: *mut u8, len: usize, needed: *mut usize) -> u32;
     pub(crate) fn jilqamur_end_wish(
-        end: *mut Handle,
+        end: *mut RawHandle,
         is_accepted: bool,
         sends: bool,
         receives: bool,
         ssrcs: *const u32,
         count: usize,
     ) -> u32;
-    pub(crate) fn jilqamur_end_answer_browser(end: *mut Handle, offer: *const u8, len: usize) -> u32;
-    pub(crate) fn jilqamur_end_accept_browser(end: *mut Handle, answer: *const u8, len: usize) -> u32;
+    pub(crate) fn jilqamur_end_answer_browser(end: *mut RawHandle, offer: *const u8, len: usize) -> u32;
+    pub(crate) fn jilqamur_end_accept_browser(end: *mut RawHandle, answer: *const u8, len: usize) -> u32;
     pub(crate) fn jilqamur_end_for_browser(
-        end: *mut Handle,
+        end: *mut RawHandle,
         text: *const u8,
         len: usize,
         setup: u8,
@@ -210,23 +308,23 @@ extern "C" {
         digest: *const u8,
         digest_len: usize,
     ) -> u32;
-    pub(crate) fn jilqamur_end_remote(end: *mut Handle, remote: *mut RemoteParts) -> u32;
+    pub(crate) fn jilqamur_end_remote(end: *mut RawHandle, remote: *mut RemoteParts) -> u32;
     pub(crate) fn jilqamur_end_remote_text(
-        end: *mut Handle,
+        end: *mut RawHandle,
         text: u8,
         buffer: *mut u8,
         len: usize,
         needed: *mut usize,
     ) -> u32;
     pub(crate) fn jilqamur_end_remote_candidate(
-        end: *mut Handle,
+        end: *mut RawHandle,
         index: usize,
         buffer: *mut u8,
         len: usize,
         needed: *mut usize,
     ) -> u32;
     pub(crate) fn jilqamur_end_agreed_section(
-        end: *mut Handle,
+        end: *mut RawHandle,
         index: usize,
         buffer: *mut u8,
         len: usize,
@@ -234,7 +332,7 @@ extern "C" {
         section: *mut AgreedParts,
     ) -> u32;
     pub(crate) fn jilqamur_end_agreed_row(
-        end: *mut Handle,
+        end: *mut RawHandle,
         section: usize,
         index: usize,
         buffer: *mut u8,
@@ -242,9 +340,9 @@ extern "C" {
         needed: *mut usize,
         row: *mut Row,
     ) -> u32;
-    pub(crate) fn jilqamur_end_agreed_ssrc(end: *mut Handle, section: usize, index: usize, ssrc: *mut u32) -> u32;
+    pub(crate) fn jilqamur_end_agreed_ssrc(end: *mut RawHandle, section: usize, index: usize, ssrc: *mut u32) -> u32;
     pub(crate) fn jilqamur_end_open_sender(
-        end: *mut Handle,
+        end: *mut RawHandle,
         mid: *const u8,
         mid_len: usize,
         ssrc: u32,
@@ -255,7 +353,7 @@ extern "C" {
         stream: *mut usize,
     ) -> u32;
     pub(crate) fn jilqamur_end_open_receiver(
-        end: *mut Handle,
+        end: *mut RawHandle,
         mid: *const u8,
         mid_len: usize,
         ssrc: u32,
@@ -265,7 +363,7 @@ extern "C" {
         stream: *mut usize,
     ) -> u32;
     pub(crate) fn jilqamur_end_push_sample(
-        end: *mut Handle,
+        end: *mut RawHandle,
         stream: usize,
         ticks: u64,
         values: *const Values,
@@ -275,64 +373,64 @@ extern "C" {
         sample_len: usize,
         count: *mut usize,
     ) -> u32;
-    pub(crate) fn jilqamur_end_repair(end: *mut Handle, stream: usize, datagram: *const u8, len: usize) -> u32;
+    pub(crate) fn jilqamur_end_repair(end: *mut RawHandle, stream: usize, datagram: *const u8, len: usize) -> u32;
     pub(crate) fn jilqamur_end_datagram(
-        end: *mut Handle,
+        end: *mut RawHandle,
         index: usize,
         buffer: *mut u8,
         len: usize,
         needed: *mut usize,
     ) -> u32;
     pub(crate) fn jilqamur_end_receive(
-        end: *mut Handle,
+        end: *mut RawHandle,
         datagram: *const u8,
         len: usize,
         stream: *mut usize,
         number: *mut u64,
     ) -> u32;
-    pub(crate) fn jilqamur_end_poll(end: *mut Handle, stream: usize) -> u32;
-    pub(crate) fn jilqamur_end_drain(end: *mut Handle, stream: usize) -> u32;
+    pub(crate) fn jilqamur_end_poll(end: *mut RawHandle, stream: usize) -> u32;
+    pub(crate) fn jilqamur_end_drain(end: *mut RawHandle, stream: usize) -> u32;
     pub(crate) fn jilqamur_end_unit(
-        end: *mut Handle,
+        end: *mut RawHandle,
         buffer: *mut u8,
         len: usize,
         needed: *mut usize,
         unit: *mut Unit,
     ) -> u32;
-    pub(crate) fn jilqamur_end_values(end: *mut Handle, values: *mut Values) -> u32;
+    pub(crate) fn jilqamur_end_values(end: *mut RawHandle, values: *mut Values) -> u32;
     pub(crate) fn jilqamur_sender_open(
-        sender: *mut Handle,
+        sender: *mut RawHandle,
         params: *const SenderParams,
         format: *const Format,
         codec: *const u8,
         codec_len: usize,
     ) -> u32;
-    pub(crate) fn jilqamur_sender_close(sender: *mut Handle) -> u32;
+    pub(crate) fn jilqamur_sender_close(sender: *mut RawHandle) -> u32;
     pub(crate) fn jilqamur_sender_push_sample(
-        sender: *mut Handle,
+        sender: *mut RawHandle,
         ticks: u64,
         sample: *const u8,
         len: usize,
         count: *mut usize,
     ) -> u32;
     pub(crate) fn jilqamur_sender_datagram(
-        sender: *mut Handle,
+        sender: *mut RawHandle,
         index: usize,
         buffer: *mut u8,
         len: usize,
         needed: *mut usize,
     ) -> u32;
     pub(crate) fn jilqamur_receiver_open(
-        receiver: *mut Handle,
+        receiver: *mut RawHandle,
         format: *const Format,
         codec: *const u8,
         codec_len: usize,
         hold_back: usize,
         held: usize,
     ) -> u32;
-    pub(crate) fn jilqamur_receiver_close(receiver: *mut Handle) -> u32;
+    pub(crate) fn jilqamur_receiver_close(receiver: *mut RawHandle) -> u32;
     pub(crate) fn jilqamur_receiver_push(
-        receiver: *mut Handle,
+        receiver: *mut RawHandle,
         sequence_number: u16,
         timestamp: u32,
         marker: bool,
@@ -340,10 +438,10 @@ extern "C" {
         len: usize,
         number: *mut u64,
     ) -> u32;
-    pub(crate) fn jilqamur_receiver_poll(receiver: *mut Handle) -> u32;
-    pub(crate) fn jilqamur_receiver_drain(receiver: *mut Handle) -> u32;
+    pub(crate) fn jilqamur_receiver_poll(receiver: *mut RawHandle) -> u32;
+    pub(crate) fn jilqamur_receiver_drain(receiver: *mut RawHandle) -> u32;
     pub(crate) fn jilqamur_receiver_unit(
-        receiver: *mut Handle,
+        receiver: *mut RawHandle,
         buffer: *mut u8,
         len: usize,
         needed: *mut usize,

@@ -1,5 +1,7 @@
 //! Values of header extensions.
 
+use crate::Error;
+use crate::error::code;
 use crate::sys;
 
 /// The values of header extensions (RFC 8285), but the names of sections and streams.
@@ -66,6 +68,74 @@ impl Values {
             video_content_type: told.has_video_content_type.then_some(told.video_content_type),
             capture_time: told.has_capture_time.then_some(told.capture_time),
             clock_offset: told.has_clock_offset.then_some(told.clock_offset),
+        }
+    }
+}
+
+/// The ids of header extensions (RFC 8285), 1 to 16; 0 for one that has none. Of two with one id the later one has it.
+#[repr(C)]
+#[derive(Clone, Copy, Debug, Default, PartialEq, Eq)]
+pub struct ExtensionIds {
+    /// The audio level and voice activity: `urn:ietf:params:rtp-hdrext:ssrc-audio-level`.
+    pub audio_level: u8,
+    /// `http://www.webrtc.org/experiments/rtp-hdrext/abs-send-time`.
+    pub abs_send_time: u8,
+    /// `http://www.ietf.org/id/draft-holmer-rmcat-transport-wide-cc-extensions-01`.
+    pub transport_cc: u8,
+    /// `urn:3gpp:video-orientation`.
+    pub video_orientation: u8,
+    /// `http://www.webrtc.org/experiments/rtp-hdrext/playout-delay`.
+    pub play_delay: u8,
+    /// `http://www.webrtc.org/experiments/rtp-hdrext/video-content-type`.
+    pub video_content_type: u8,
+    /// `http://www.webrtc.org/experiments/rtp-hdrext/abs-capture-time`.
+    pub capture_time: u8,
+    /// The section's mid: `urn:ietf:params:rtp-hdrext:sdes:mid`.
+    pub mid: u8,
+    /// The stream's id: `urn:ietf:params:rtp-hdrext:sdes:rtp-stream-id`.
+    pub rid: u8,
+    /// That of a stream that is repaired: `urn:ietf:params:rtp-hdrext:sdes:repaired-rtp-stream-id`.
+    pub repaired_rid: u8,
+}
+
+/// The names of section and stream that a datagram carries.
+#[derive(Clone, Debug, Default, PartialEq, Eq)]
+pub struct Names {
+    /// The mid (RFC 9143 15).
+    pub mid: Option<String>,
+    /// The RID (RFC 8852 4.1).
+    pub rid: Option<String>,
+    /// The RID of a stream that is repaired (RFC 8852 4.2).
+    pub repaired_rid: Option<String>,
+}
+
+fn name(has: bool, bytes: &[u8], len: u8) -> Option<String> {
+    has.then(|| String::from_utf8_lossy(&bytes[..usize::from(len)]).into_owned())
+}
+
+impl ExtensionIds {
+    /// The values of the header extensions in front of a datagram, read by these ids, and the names of its section and
+    /// stream.
+    ///
+    /// # Errors
+    /// `OutOfRange` if an id is above 16, or `Unreadable`.
+    pub fn read(&self, datagram: &[u8]) -> Result<(Values, Names), Error> {
+        let (mut values, mut names) = (sys::Values::default(), sys::Names::default());
+        // SAFETY: pointer and length are those of one slice, and what is written are places of their own.
+        let answer = unsafe {
+            sys::jilqamur_header_values(datagram.as_ptr(), datagram.len(), self, &mut values, &mut names)
+        };
+        match answer {
+            code::OK => {
+                let names = Names {
+                    mid: name(names.has_mid, &names.mid, names.mid_len),
+                    rid: name(names.has_rid, &names.rid, names.rid_len),
+                    repaired_rid: name(names.has_repaired_rid, &names.repaired_rid, names.repaired_rid_len),
+                };
+                Ok((Values::of(&values), names))
+            }
+            code::OUT_OF_RANGE => Err(Error::OutOfRange),
+            _ => Err(Error::Unreadable),
         }
     }
 }

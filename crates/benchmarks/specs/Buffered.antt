@@ -1,4 +1,4 @@
--- What packets through a buffer count.
+-- What a benchmark counts when it runs packets through a jitter buffer.
 use Rattle.std.specs.Prelude.{◌≡◌, ◌⊎◌, ℕ, zero, suc, ◌+◌, ◌-◌, ◌*◌, ◌^◌, ◌==◌, min, [], Option, Some, None}
 use Rattle.std.specs.Prelude.{Result, Ok, Err, length, map, slice_index_or}
 use Rattle.benchmarks.specs.Tallies.{tally_with}
@@ -13,11 +13,11 @@ use Rattle.payload_core.specs.declared.PacketError.{PacketError}
 use Rattle.rtp_wire.specs.Values.{absent}
 use Rattle.benchmarks.specs.declared.buffers.Buffering.{Buffering}
 
--- The number after so many packets, which stops at the greatest.
+-- The packet number after n steps, capped at 2^64 - 1.
 abbrev pub number_after : {D : Type 0} → Buffering D → ℕ → ℕ
 number_after b n = min (b.number + b.step * n) (2 ^ 64 - 1)
 
--- A packet of the sample as it is pushed: all have one time, and the last has the marker.
+-- Packet n of the sample as it is pushed: all its packets share one timestamp, and the last has the marker bit.
 abbrev pub packet_at : {D : Type 0} → Buffering D → ℕ → ℕ → Packet
 packet_at b time n = packet_from (record {
   seq_no = number_after b n;
@@ -26,13 +26,13 @@ packet_at b time n = packet_from (record {
   ext_vals = absent;
 }) (slice_index_or (map (λ p. p.items) b.packets.now) n [])
 
--- So many packets were pushed, one after the other; one is left out where memory runs out.
+-- The first n packets are pushed in order; a packet is skipped if memory runs out.
 abbrev pub PushesFirst : {D : Type 0} → Buffering D → ℕ → ℕ → Buffered D → Buffered D → Type 0
 PushesFirst b time zero old new = new ≡ old
 PushesFirst {D} b time (suc n) old new = (mid : Buffered D) × PushesFirst b time n old mid
     × ((new ≡ record mid { held = pushed mid.holding.held mid.cutoff mid.held (packet_at b time n) }) ⊎ (new ≡ mid))
 
--- What a pop reads and changes of a buffer.
+-- The part of a buffer that a pop reads and changes.
 abbrev pub state_of : {D : Type 0} → (D → Fragment) → Buffered D → PopState
 state_of fragment b = pop_state b.held b.cutoff (fragment b.depacketizer)
 
@@ -42,7 +42,7 @@ CountsUnit (Ok (Some unit)) before after = after ≡ tally_with before 1 (length
 CountsUnit (Ok None) before after = after ≡ before
 CountsUnit (Err e) before after = after ≡ before
 
--- The packets are pushed, and what the pop behind them hands out is counted.
+-- The packets are pushed, and the result of the pop that follows is counted.
 pub record CountsPopped {D : Type 0} (format : D → Format) (fragment : D → Fragment) (old : Buffering D) (time : ℕ)
     (before : Tally) (new : Buffering D) (after : Tally) : Type 0 where
   pub full : Buffered D

@@ -1,4 +1,4 @@
--- What a sample that is cut counts.
+-- What cutting a sample into units counts.
 use Rattle.std.specs.Prelude.{◌≡◌, ℕ}
 use Rattle.benchmarks.specs.Tallies.{tally_with_all}
 use Rattle.benchmarks.specs.declared.tally.Tally.{Tally}

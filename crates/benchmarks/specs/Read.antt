@@ -8,7 +8,7 @@ use Rattle.payload_core.specs.declared.CodecExtra.{CodecExtra}
 use Rattle.benchmarks.specs.declared.formats.Copying.{Copying}
 use Rattle.benchmarks.specs.declared.formats.Reading.{Reading}
 
--- What was read so far: the bytes, what is told of them, and the open fragment.
+-- What was read so far: the output bytes, the codec's own data about them, and the open fragment.
 pub record Reader : Type 0 where
   pub out : List ℕ
   pub extra : CodecExtra
@@ -17,18 +17,18 @@ pub record Reader : Type 0 where
 abbrev pub reader : List ℕ → CodecExtra → Fragment → Reader
 reader out extra fragment = record { out = out; extra = extra; fragment = fragment }
 
--- A packet gives what its format says; or nothing, where it is refused or memory runs out.
+-- A packet is read by its format; it is skipped if it is refused or memory runs out.
 abbrev pub ReadsOrSkips : Format → List ℕ → Reader → Reader → Type 0
 ReadsOrSkips format packet old new =
     Gives (format.read old.fragment old.extra packet) old.out new.out new.extra new.fragment ⊎ (new ≡ old)
 
--- So many packets were read, one after the other.
+-- The first n packets were read in order.
 abbrev pub ReadsFirst : Format → List (List ℕ) → ℕ → Reader → Reader → Type 0
 ReadsFirst format packets zero old new = new ≡ old
 ReadsFirst format packets (suc n) old new = (mid : Reader) × ReadsFirst format packets n old mid
     × ReadsOrSkips format (slice_index_or packets n []) mid new
 
--- The packets are counted, and the bytes that they give: all were read, from no bytes on.
+-- All packets are read, starting with no output; the packets and the output bytes are counted.
 pub record CountsRead {D : Type 0} (format : D → Format) (fragment : D → Fragment) (old : Reading D) (number : ℕ)
     (before : Tally) (new : Reading D) (after : Tally) : Type 0 where
   pub extra : CodecExtra
@@ -39,7 +39,7 @@ pub record CountsRead {D : Type 0} (format : D → Format) (fragment : D → Fra
   pub format_stays : format new.depacketizer ≡ format old.depacketizer
   pub packets_stay : new.packets ≡ old.packets
 
--- So many packets stand one behind the other; one is left out where memory runs out.
+-- The first n packets, concatenated; a packet is skipped if memory runs out.
 abbrev pub JoinsFirst : List (List ℕ) → ℕ → List ℕ → Type 0
 JoinsFirst packets zero text = text ≡ []
 JoinsFirst packets (suc n) text = (front : List ℕ) × JoinsFirst packets n front

@@ -7,18 +7,18 @@ use Rattle.payload_core.specs.Payloaders.{packetizer_of}
 use Rattle.payload_core.specs.declared.PacketError.{PacketError}
 use Rattle.benchmarks.specs.declared.formats.Sending.{Sending}
 
--- All of these packets are counted, or the first of them, up to the greatest number of packets.
+-- Either all of these packets are counted, or only the first of them, until the counter was full.
 abbrev pub CountsPackets : List (List ℕ) → Tally → Tally → Type 0
 CountsPackets packets before after = (after ≡ tally_with_all before packets)
     ⊎ ((n : ℕ) × (after ≡ tally_with_all before (take n packets)) × (after.packets ≡ 2 ^ 64 - 1))
 
--- The sample was accepted: its packets are counted, and the sender is what it is after them.
+-- The sample was accepted: its packets are counted, and the sender's state is the one after them.
 abbrev pub CountsAccepted : Result Sent PacketError → Sender → Tally → Tally → Type 0
 CountsAccepted (Ok sent) sender before after = (sender ≡ sent.sender) × CountsPackets sent.packets before after
 CountsAccepted (Err e) sender before after = ⊥
 
--- The packets of the sample at a limit of 1,200 bytes are counted; or nothing is and the sender stays, where the
--- sample is refused or memory runs out. The line has the tally too.
+-- The packets of the sample at a limit of 1,200 bytes are counted; if the sample is refused or memory runs out, nothing
+-- is counted and the sender doesn't change. The line's tally is the same.
 pub record CountsSent {P : Type 0} (packing : P → Packing) (sender : P → Sender) (old : Sending P) (number : ℕ)
     (before : Tally) (new : Sending P) (after : Tally) : Type 0 where
   pub counted :

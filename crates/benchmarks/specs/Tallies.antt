@@ -6,13 +6,13 @@ use Rattle.benchmarks.specs.declared.tally.Tally.{Tally}
 abbrev pub empty_tally : Tally
 empty_tally = record { packets = 0; bytes = 0 }
 
--- A tally with so many payloads more, which have so many bytes together; both wrap at 64 bits.
+-- The tally plus so many payloads with so many bytes in all; both counters wrap at 64 bits.
 abbrev pub tally_with : Tally → ℕ → ℕ → Tally
 tally_with tally packets bytes = record {
   packets = (tally.packets + packets) % 2 ^ 64;
   bytes = (tally.bytes + bytes) % 2 ^ 64;
 }
 
--- A tally with these payloads more, and their bytes.
+-- The tally plus these payloads and their bytes.
 abbrev pub tally_with_all : Tally → List (List ℕ) → Tally
 tally_with_all tally payloads = fold (λ t p. tally_with t 1 (length p)) tally payloads

@@ -1,4 +1,4 @@
--- What session texts count that are read and printed.
+-- What reading and printing session texts count.
 use Rattle.std.specs.Prelude.{◌≡◌, ◌⊎◌, ℕ, List, Option, Some, Result, Ok, Err, length}
 use Rattle.std.specs.Borrow.{Bor}
 use Rattle.benchmarks.specs.Tallies.{tally_with}
@@ -9,12 +9,12 @@ use Rattle.sdp_formats.specs.declared.SdpError.{SdpError}
 use Rattle.benchmarks.specs.declared.texts.Printing.{Printing}
 use Rattle.benchmarks.specs.declared.texts.Reading.{Reading}
 
--- Of a text that is read the sections are counted, and its bytes.
+-- If a text is read, its sections and its bytes are counted.
 abbrev pub CountsAnswer : Result (Sdp × Bor (List ℕ)) SdpError → List ℕ → Tally → Tally → Type 0
 CountsAnswer (Ok r) text before after = after ≡ tally_with before (length r.0.media_lines) (length text)
 CountsAnswer (Err e) text before after = after ≡ before
 
--- The text is read, and what comes of it is counted.
+-- The text is read, and the result is counted.
 abbrev pub CountsSections : Reading → ℕ → Tally → Reading → Tally → Type 0
 CountsSections old number before new after = (new ≡ old) × ((answer : Result (Sdp × Bor (List ℕ)) SdpError)
     × ParsesSdp old.text.now answer × CountsAnswer answer old.text.now before after)

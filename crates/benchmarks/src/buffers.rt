@@ -8,8 +8,8 @@ use payload_core::{Depacketized, Depacketizer, DepacketizingBuffer, PacketError,
 use rtp_wire::{ExtensionValues, SeqNo};
 use std::alloc::Global;
 
-/// The packets of a sample that are pushed into a buffer, the last with the marker, of which a unit is popped then if
-/// one is due. Where their numbers have steps of more than one, they wait for the numbers between them.
+/// A sample's packets, pushed into a jitter buffer (the last with the marker bit); then a unit is
+/// popped if one is due. With number steps above one, they wait for the missing numbers.
 #[derive(Drop)]
 pub(crate) struct Buffering<'a, D: Depacketizer> {
     pub(crate) buffer: DepacketizingBuffer<D>,

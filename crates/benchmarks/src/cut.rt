@@ -1,4 +1,4 @@
-//! Access units that are cut into their units.
+//! Access units cut into NAL units.
 
 use crate::h26x::H264_SETS;
 use crate::measured::{Round, measure_packets};

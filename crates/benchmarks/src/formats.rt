@@ -68,8 +68,7 @@ impl<D: Depacketizer> Round for Reading<'_, D> {
     }
 }
 
-/// The simplest reader, beside which others are measured: what the packets hold is put into one fragment, and that
-/// into what is handed out.
+/// The baseline for readers: all payloads are copied into one fragment, and that into the output.
 #[derive(Drop)]
 pub(crate) struct Copying<'a> {
     pub(crate) packets: &'a [Vec<u8>],
@@ -115,7 +114,8 @@ fn pair(
     Some((packetizer, depacketizer))
 }
 
-/// Sends a sample of a codec, reads its packets, and has them go through a buffer, so often.
+/// Sends a codec's sample, reads its packets, and runs them through a jitter buffer, `rounds`
+/// times.
 pub(crate) fn measure_codec(
     rt: &HostRuntime,
     format: &str,

@@ -1,4 +1,4 @@
-//! Headers written and read, beside plain copies, and numbers that a replay window takes.
+//! Headers written and read, compared with plain copies, and numbers given to a replay window.
 
 use crate::measured::{Round, measure};
 use crate::tally::Tally;
@@ -14,7 +14,7 @@ const ROUNDS: u32 = 200_000;
 /// How many bytes are copied.
 const COPIED: usize = 32;
 
-/// The extensions of a header: the number of each, and its value.
+/// Header extensions with their ids and values.
 #[derive(Drop)]
 struct Extensions {
     map: ExtensionMap,
@@ -110,7 +110,7 @@ struct Copying {
     to: [u8; 64],
 }
 
-/// Counts copies, and how many of the written bytes are the greatest.
+/// Counts copies, and how many of the bytes written are 255.
 impl Round for Copying {
     ghost use Rattle.benchmarks.specs.Headers.{CountsCopied};
 
@@ -123,7 +123,7 @@ impl Round for Copying {
     }
 }
 
-/// A window that is handed rising numbers, every third one twice.
+/// A window given increasing numbers, every third one twice.
 #[derive(Drop)]
 struct Updating {
     window: SeqNoWindow,

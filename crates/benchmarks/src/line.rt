@@ -1,12 +1,12 @@
-//! A sink that takes payloads as a transport does.
+//! A sink that takes payloads as a transport would.
 
 use crate::formats::LIMIT;
 use crate::tally::Tally;
 use payload_core::{PacketError, PacketSink};
 use rtp_wire::ExtensionValues;
 
-/// A place for one payload, into which each is copied, and how many there were. It sums one byte of each, another one
-/// each time, so that no copy can be left out.
+/// A buffer for one payload, into which each payload is copied, and a count. It sums one byte of
+/// each, a different one each time, so that no copy can be optimized away.
 #[derive(Drop)]
 pub(crate) struct Line {
     place: [u8; LIMIT],

@@ -1,4 +1,4 @@
-//! Session texts that are made to cost time: few lines over and over, which name each other.
+//! SDP made to be slow to process: a few lines repeated many times, naming each other.
 
 use crate::measured::{Round, measure};
 use crate::tally::Tally;
@@ -35,7 +35,7 @@ impl Round for Reading<'_> {
     }
 }
 
-/// Reads a text once whose section lists such types more, and has these lines so often.
+/// Reads, once, a text whose section lists these extra types and repeats these lines so many times.
 fn read_made(
     rt: &HostRuntime,
     what: &str,

@@ -1,4 +1,4 @@
-//! What is done over and over, and the time that it takes.
+//! Repeated work, and the time it takes.
 
 ghost use Rattle.std.specs.Prelude.{ℕ, IfOk, OnErr, OnOk};
 ghost use Rattle.benchmarks.specs.declared.tally.Tally.{Tally};
@@ -15,12 +15,12 @@ pub(crate) trait Round {
     /// What one round counts: the state before it, its number, the tally before it, and the state and tally after it.
     ghost counts: { Self → ℕ → Tally → Self → Tally → Type 0 };
 
-    /// Does it once more, and counts what came of it. Where something fails, less is counted.
+    /// Does one round, and counts its result. If something fails, less is counted.
     fn round(&mut self, alloc: Global, number: u32, tally: &mut Tally)
         ensures { counts self.old number tally.old self.new tally.new };
 }
 
-/// Does it so often; returns what was counted.
+/// Repeats it; returns the tally.
 pub(crate) fn repeat<R: Round>(alloc: Global, round: &mut R, rounds: u32) -> Tally
     ensures { Repeats R.counts rounds round.old empty_tally round.new result }
 {

@@ -76,7 +76,8 @@ fn baseline(rt: &HostRuntime, format: &str, unit: &[u8], rounds: u32) -> io::Res
     measure_packets(rt, format, "copied twice", &mut copying, rounds)
 }
 
-/// Pushes packets into a buffer in which so many wait for those with the numbers between them, and pops after each.
+/// Pushes packets into a buffer in which this many packets wait for missing ones, and pops after
+/// each.
 fn buffer(rt: &HostRuntime, what: &str, waiting: u32) -> io::Result<()> {
     let packets = [Vec::from_slice(rt.alloc(), &[7; 120])?];
     let depacketizer = OpusDepacketizer::new();

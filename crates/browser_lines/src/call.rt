@@ -1,27 +1,29 @@
-//! A call between an end and a browser.
+//! A session between an end and a browser.
 
 use crate::transport::Own;
-use rtp_media::{
-    Codec, CodecConfig, End, EndError, ExchangeError, FormatParams, SectionSpec, Session, are_sound,
-};
+use rtp_media::{End, EndError, ExchangeError, SectionSpec, Session, are_sound};
 use rtp_media_browsers::{
-    BrowserError, Plan, Wish, answer_for_end, for_browser, for_end, sections_for,
+    BrowserError, Plan, Wish, WishError, answer_for_end, for_browser, for_end, map_for_browsers,
+    rows_for_browsers, sections_for,
 };
-use rtp_wire::{Extension, ExtensionMap, Frequency, Pt, SessionId};
-use sdp_formats_data::Setup;
+use rtp_wire::SessionId;
+use sdp_formats_values::Setup;
 use std::alloc::{AllocError, Global};
 use thiserror::Error;
 
-/// Why a browser's text isn't answered, or its answer not taken.
+/// Why a browser's offer isn't answered, or its answer isn't accepted.
 #[derive(Debug, Drop, Error)]
 pub(crate) enum CallError {
-    /// The text doesn't pass between the browser and the end.
+    /// The text is refused on its way between browser and end.
     #[error("{0}")]
     Browser(BrowserError),
+    /// The wishes don't fit the offer.
+    #[error("{0}")]
+    Wish(WishError),
     /// The end refuses it.
     #[error("the end: {0}")]
     Exchange(ExchangeError),
-    /// The repairs of a section don't fit its SSRCs.
+    /// A section's RTX pairs don't fit its SSRCs.
     #[error("the repairs of a section don't fit its SSRCs")]
     Unsound,
     /// Out of memory.
@@ -47,6 +49,25 @@ impl From<AllocError> for CallError {
     }
 }
 
+/// What comes of a browser's offer.
+#[derive(Drop)]
+enum Answered {
+    /// What the browser gets.
+    Text(String),
+    /// No row is common in the section of this place.
+    NoCommonRow(usize),
+}
+
+/// What comes of an offer that the end refuses.
+fn refused(plan: &Plan, error: ExchangeError) -> Result<Answered, CallError> {
+    if let ExchangeError::NoCommonRow(mid) = &error {
+        if let Some(place) = plan.place_of(*mid) {
+            return Ok(Answered::NoCommonRow(place));
+        }
+    }
+    Err(CallError::Exchange(error))
+}
+
 /// An end, and what it remembers of its browser.
 #[derive(Drop)]
 pub(crate) struct Call {
@@ -56,46 +77,55 @@ pub(crate) struct Call {
     pub(crate) own: Own,
 }
 
-/// The rows by default, and telephone events at 8,000 and 48,000 Hz.
-fn rows(alloc: Global) -> Result<CodecConfig, AllocError> {
-    let mut config = CodecConfig::new_with_defaults(alloc)?;
-    let (slow, fast) = (Frequency::EIGHT_KHZ, Frequency::FORTY_EIGHT_KHZ);
-    let events = FormatParams {
-        telephone_event_max: Some(15),
-        ..FormatParams::default()
-    };
-    config.add_config(Pt::from(126), None, Codec::Tele, slow, None, events)?;
-    config.add_config(Pt::from(110), None, Codec::Tele, fast, None, events)?;
-    Ok(config)
-}
-
 impl Call {
-    /// An end of the rows by default and of telephone events, before its first exchange.
-    pub(crate) fn new(alloc: Global, session: u64) -> Result<Call, EndError> {
+    /// An end of the rows and header extensions for browsers, before its first exchange; Opus with redundancy, or
+    /// without.
+    pub(crate) fn new(alloc: Global, session: u64, use_red: bool) -> Result<Call, EndError> {
         let session = Session::new(alloc, SessionId::from(session));
+        let mut rows = rows_for_browsers(alloc)?;
+        if use_red {
+            rows.enable_opus(true, true)?;
+        }
         Ok(Call {
             alloc,
-            end: End::new(alloc, rows(alloc)?, session, ExtensionMap::standard())?,
+            end: End::new(alloc, rows, session, map_for_browsers())?,
             plan: Plan::new(alloc),
             own: Own::new(alloc)?,
         })
     }
 
-    /// What the browser gets for its offer. Where it is refused, all is as before.
-    pub(crate) fn answer(&mut self, offer: &str, wishes: &[Wish]) -> Result<String, CallError> {
+    /// The text the browser gets for its offer. A section without a row in common is rejected alone. If the offer is
+    /// refused, nothing changes.
+    pub(crate) fn answer(&mut self, offer: &str, wishes: Vec<Wish>) -> Result<String, CallError> {
+        let mut wishes = wishes;
+        for _ in 0..=wishes.len() {
+            match self.answer_as_wished(offer, wishes.as_slice())? {
+                Answered::Text(text) => return Ok(text),
+                Answered::NoCommonRow(place) => {
+                    if let Some(wish) = wishes.get_mut(place) {
+                        *wish = Wish::Reject;
+                    }
+                }
+            }
+        }
+        Err(CallError::Browser(BrowserError::NothingLeft))
+    }
+
+    fn answer_as_wished(&mut self, offer: &str, wishes: &[Wish]) -> Result<Answered, CallError> {
         let alloc = self.alloc;
-        let before = self.plan.clone(alloc)?;
-        let sections = sections_for(alloc, offer, wishes)?;
+        let mut plan = self.plan.clone(alloc)?;
+        let text = for_end(alloc, &mut plan, offer, wishes)?;
+        let sections = sections_for(alloc, &plan, wishes)?;
         if !are_sound(sections.as_slice()) {
             return Err(CallError::Unsound);
         }
-        let text = for_end(alloc, &mut self.plan, offer, wishes)?;
         match self.end.answer(text.as_str(), sections) {
-            Ok(answer) => self.dressed(answer.as_str(), self.own.setup),
-            Err(error) => {
-                self.plan = before;
-                Err(CallError::Exchange(error))
+            Ok(answer) => {
+                self.plan = plan;
+                let text = self.dressed(answer.as_str(), self.own.setup)?;
+                Ok(Answered::Text(text))
             }
+            Err(error) => refused(&plan, error),
         }
     }
 

@@ -1,16 +1,18 @@
 //! The commands.
 
 use crate::call::{Call, CallError};
+use crate::identity::{add_track, identity};
 use crate::remote::put_remote;
 use crate::texts::put_result;
 use crate::transport::Own;
-use crate::wishes::{sections, wishes};
-use command_lines::{ReplyText, parted};
-use rtp_media_browsers::for_end;
-use sdp_formats_data::Setup;
+use crate::wishes::{named_wishes, sections, wishes};
+use rtp_media_browsers::{for_end, wishes_for};
+use rtp_wire::Mid;
+use sdp_formats_values::Setup;
 use std::fs;
+use words_and_replies::{ReplyText, parted};
 
-/// Answers a line: the line itself, and behind it what the command gives.
+/// Answers a line: echoes the line, followed by the command's result.
 pub(crate) fn answer(
     rt: &HostRuntime,
     call: &mut Call,
@@ -23,8 +25,11 @@ pub(crate) fn answer(
     let (name, words) = parted(rest);
     match command {
         "" | "#" => {}
-        "end" => *call = Call::new(alloc, rest.parse::<u64>()?)?,
+        "end" => *call = Call::new(alloc, name.parse::<u64>()?, words == "red")?,
         "own" => put_result(call.offer(sections(alloc, rest)?), reply),
+        "stop" => call.plan.stop(alloc, Mid::from(name))?,
+        "identity" => call.plan.identity = Some(identity(alloc, name, words)?),
+        "track" => add_track(alloc, &mut call.plan, name, words)?,
         "withdraw" => reply.put(if call.end.withdraw() { ": yes" } else { ": no" }),
         "remote" => put_remote(&call.plan.remote, reply),
         "creds" => call.own = Own::of(alloc, name, words)?,
@@ -59,7 +64,11 @@ fn put_of_text(
             let handed = for_end(alloc, &mut plan, text, wishes.as_slice());
             put_result(handed.map_err(CallError::Browser), reply);
         }
-        "offer" => put_result(call.answer(text, wishes(alloc, words)?.as_slice()), reply),
+        "offer" => put_result(call.answer(text, wishes(alloc, words)?), reply),
+        "ask" => match wishes_for(alloc, text, named_wishes(alloc, words)?) {
+            Ok(wishes) => put_result(call.answer(text, wishes), reply),
+            Err(error) => put_result(Err(CallError::Wish(error)), reply),
+        },
         "answer" => put_result(call.accept(text), reply),
         _ => reply.fault(),
     }

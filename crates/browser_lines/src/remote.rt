@@ -1,7 +1,7 @@
 //! What a browser tells of its transport.
 
-use command_lines::ReplyText;
 use rtp_media_browsers::Remote;
+use words_and_replies::ReplyText;
 
 /// Credentials, fingerprint, setup and candidates, and whether more of them may come.
 pub(crate) fn put_remote(remote: &Remote, reply: &mut ReplyText) {

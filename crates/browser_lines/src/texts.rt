@@ -1,9 +1,9 @@
 //! Texts in replies.
 
 use crate::call::CallError;
-use command_lines::ReplyText;
+use words_and_replies::ReplyText;
 
-/// The lines of a text, each behind two blanks.
+/// The lines of a text, each indented by two blanks.
 pub(crate) fn put_text(text: &str, reply: &mut ReplyText) {
     for line in text.lines() {
         reply.put("\n  ");

@@ -1,7 +1,8 @@
 //! The transport of the end, whose certificate and credentials are known beforehand.
 
 use rtp_media_browsers::{Gathering, Transport};
-use sdp_formats_data::{Fingerprint, IceCreds, Listed, Setup, Text};
+use sdp_formats_grammar::{Listed, Text};
+use sdp_formats_values::{Fingerprint, IceCreds, Setup};
 use std::alloc::{AllocError, Global};
 
 /// The digest of the certificate.
@@ -24,7 +25,7 @@ pub(crate) struct Own {
 }
 
 impl Own {
-    /// An end that waits for the connection.
+    /// A transport with the passive DTLS role.
     pub(crate) fn new(alloc: Global) -> Result<Own, AllocError> {
         Own::of(alloc, "F7gI", "x9cml/YzichV2+XlhiMu8g")
     }

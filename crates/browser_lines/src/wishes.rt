@@ -1,12 +1,12 @@
 //! Words for wishes and for sections.
 
 use rtp_media::{MediaKind, SectionSpec};
-use rtp_media_browsers::Wish;
+use rtp_media_browsers::{NamedWish, Target, Wish};
 use rtp_wire::{Direction, Mid, Ssrc};
 use std::alloc::{AllocError, Global};
 
-/// The SSRCs of words with commas between, as `44` or `44+45`, where 45 repairs 44; none of an empty word, or of one
-/// that isn't numbers.
+/// The SSRCs of words separated by commas, such as `44` or `44+45`, where 45 is the RTX SSRC of 44;
+/// none for an empty word, or if one isn't a number.
 fn ssrcs(alloc: Global, word: &str) -> Result<Vec<Ssrc>, AllocError> {
     let mut ssrcs = Vec::new(alloc);
     for source in word.split(',') {
@@ -18,7 +18,7 @@ fn ssrcs(alloc: Global, word: &str) -> Result<Vec<Ssrc>, AllocError> {
     Ok(ssrcs)
 }
 
-/// The pairs of an SSRC and that of its repairs among such words.
+/// The (SSRC, RTX SSRC) pairs in such words.
 fn repairs(alloc: Global, word: &str) -> Result<Vec<(Ssrc, Ssrc)>, AllocError> {
     let mut repairs = Vec::new(alloc);
     for source in word.split(',') {
@@ -30,7 +30,7 @@ fn repairs(alloc: Global, word: &str) -> Result<Vec<(Ssrc, Ssrc)>, AllocError> {
     Ok(repairs)
 }
 
-/// `reject`, or a direction with SSRCs behind a colon, as `sendrecv:44,45`.
+/// `reject`, or a direction and SSRCs separated by a colon, such as `sendrecv:44,45`.
 fn wish(alloc: Global, word: &str) -> Result<Wish, AllocError> {
     if word == "reject" {
         return Ok(Wish::Reject);
@@ -48,6 +48,28 @@ pub(crate) fn wishes(alloc: Global, words: &str) -> Result<Vec<Wish>, AllocError
     let mut wishes = Vec::new(alloc);
     for word in words.split_whitespace() {
         wishes.push(wish(alloc, word)?)?;
+    }
+    Ok(wishes)
+}
+
+/// A wish for `audio`, `video` or a mid, and `=` and the wish behind it.
+fn named_wish(alloc: Global, word: &str) -> Result<NamedWish, AllocError> {
+    let (target, rest) = word.split_once('=').unwrap_or((word, ""));
+    Ok(NamedWish {
+        target: match target {
+            "audio" => Target::Kind(MediaKind::Audio),
+            "video" => Target::Kind(MediaKind::Video),
+            _ => Target::Mid(Mid::from(target)),
+        },
+        wish: wish(alloc, rest)?,
+    })
+}
+
+/// The wishes of words with blanks between, each with what it is for.
+pub(crate) fn named_wishes(alloc: Global, words: &str) -> Result<Vec<NamedWish>, AllocError> {
+    let mut wishes = Vec::new(alloc);
+    for word in words.split_whitespace() {
+        wishes.push(named_wish(alloc, word)?)?;
     }
     Ok(wishes)
 }

@@ -13,7 +13,7 @@ pub(crate) fn opus_end(alloc: Global, session: u64) -> anyhow::Result<End> {
     Ok(End::new(alloc, config, session, ExtensionMap::empty())?)
 }
 
-/// One audio section, `0`, that flows both ways, of this SSRC.
+/// One audio section `0`, both ways, with this SSRC.
 fn audio(alloc: Global, ssrc: u32) -> Result<Vec<SectionSpec>, AllocError> {
     let section = SectionSpec {
         mid: Mid::from("0"),

@@ -5,7 +5,7 @@ use rtp_media::{Datagram, End, MIN_HELD, StreamParams, Unit};
 use rtp_wire::{MediaTime, Mid, Pt, Ssrc};
 use std::alloc::Global;
 
-/// The most units that are handed out behind one datagram.
+/// The maximum number of units handed out after one datagram.
 const MOST_UNITS: usize = 4096;
 
 /// A stream of the end that receives, whose units are the samples of a stream of the end that sends.
@@ -18,8 +18,8 @@ pub(crate) struct Forwarder {
 }
 
 impl Forwarder {
-    /// A forwarder between two ends that have agreed on Opus at payload type 111 with someone each: the numbers of its
-    /// datagrams begin at 500, whatever those of the received ones are.
+    /// A forwarder between two ends that have each agreed on Opus with payload type 111 with some
+    /// other end: its datagrams are numbered from 500, whatever the received ones' numbers.
     pub(crate) fn new(mut inward: End, mut outward: End) -> anyhow::Result<Forwarder> {
         let (mid, ssrc, pt) = (Mid::from("0"), Ssrc::from(44), Pt::from(111));
         let params = StreamParams {
@@ -44,7 +44,7 @@ impl Forwarder {
         })
     }
 
-    /// Takes a datagram in, and returns those that are to be sent on.
+    /// Takes a datagram, and returns the datagrams to forward.
     pub(crate) fn forward(
         &mut self,
         alloc: Global,

@@ -58,7 +58,7 @@ fn send(end: &mut End, tx: usize, k: u8) -> anyhow::Result<Vec<Datagram>> {
     Ok(end.push_sample(tx, time, &[k, 2, 3], &ExtensionValues::absent())?)
 }
 
-/// Takes a datagram in, and prints the unit that is due then.
+/// Takes a datagram, and prints the unit that is due, if any.
 fn hear(rt: &HostRuntime, end: &mut End, rx: usize, datagram: &Datagram) -> anyhow::Result<()> {
     let received = end.receive(datagram.as_slice())?;
     println!(*rt; "{received:?}")?;

@@ -1,5 +1,5 @@
-//! Answers a browser's offer of audio and data by an end: sound goes both ways, and data is rejected. Uses the crates
-//! `anyhow`, `rtp_media`, `rtp_media_browsers`, `rtp_wire` and `sdp_formats`.
+//! An end answers a browser's offer of audio and data: sound both ways, data rejected. Uses the
+//! crates `anyhow`, `rtp_media`, `rtp_media_browsers`, `rtp_wire` and `sdp_formats`.
 
 use anyhow::ensure;
 use rtp_media::{CodecConfig, End, Session, are_sound};
@@ -48,7 +48,7 @@ fn wishes(alloc: Global) -> Result<Vec<Wish>, AllocError> {
 fn answered(alloc: Global, end: &mut End, plan: &mut Plan, offer: &str) -> anyhow::Result<String> {
     let wishes = wishes(alloc)?;
     let handed = for_end(alloc, plan, offer, wishes.as_slice())?;
-    let sections = sections_for(alloc, offer, wishes.as_slice())?;
+    let sections = sections_for(alloc, plan, wishes.as_slice())?;
     ensure!(are_sound(sections.as_slice()), "unsound repairs");
     let answer = end.answer(handed.as_str(), sections)?;
     let text = for_browser(alloc, plan, answer.as_str(), &transport(alloc)?)?;

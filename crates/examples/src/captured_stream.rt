@@ -18,7 +18,7 @@ const HOLD_BACK: usize = 1023;
 pub(crate) struct Counts {
     /// Datagrams that were taken.
     pub(crate) taken: u64,
-    /// Datagrams whose payload is padding alone.
+    /// Datagrams whose payload is only padding.
     pub(crate) padding: u64,
     /// Datagrams that came before, or too late.
     pub(crate) refused: u64,
@@ -30,7 +30,7 @@ pub(crate) struct Counts {
     pub(crate) keyframes: u64,
     /// Whether the first unit is one.
     pub(crate) begins_with_keyframe: bool,
-    /// Units that were handed out at the end alone, since a packet before them is missing.
+    /// Units that were only handed out at the end, since a packet before them is missing.
     pub(crate) drained: u64,
     /// Frames that could not be read.
     pub(crate) faults: u64,

@@ -8,8 +8,8 @@ use rtp_wire::{ExtensionMap, RtpHeader};
 use std::alloc::Global;
 use std::{fs, io};
 
-/// Takes a datagram in, if it is of the capture's payload types, by the stream of its SSRC, which is made where there
-/// is none.
+/// Takes a datagram, if it has the capture's payload types, into the stream with its SSRC, which is
+/// created if needed.
 fn receive(
     alloc: Global,
     capture: &Capture,

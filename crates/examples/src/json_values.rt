@@ -1,7 +1,7 @@
-//! What rows hold, in a value of one's own. Uses the crates `anyhow`, `h26x_payload_profiles`, `sdp_formats_json` and
+//! What rows hold, in a value of one's own. Uses the crates `anyhow`, `media_types`, `sdp_formats_json` and
 //! `serde_json`.
 
-use h26x_payload_profiles::{H264ProfileIdc, H264ProfileLevel};
+use media_types::{H264ProfileIdc, H264ProfileLevel};
 use sdp_formats_json::{Codec, Frequency, Pt};
 
 /// What a recorder keeps of a stream: its payload type, its clock rate, its codec, and the profile, by itself and with

@@ -1,6 +1,6 @@
-//! A VP8 round trip over a link that loses packets: frames are cut into packets, some don't arrive, and what comes out
-//! are whole frames, in order. Uses the crates `anyhow`, `payload_core` and `rtp_wire`, and the module `recorder`
-//! beside it.
+//! A VP8 round trip over a lossy link: frames are cut into packets, some packets are lost, and
+//! whole frames come out in order. Uses the crates `anyhow`, `payload_core` and `rtp_wire`, and the
+//! module `recorder` beside it.
 
 use crate::recorder::last_frames;
 use payload_core::{

@@ -3,10 +3,10 @@ use Rattle.std.proofs.Common.{◌≡◌, ℕ, Bool, refl}
 use Rattle.payload_core_vpx.specs.Vp8Forms as vpx
 use Rattle.payload_core_vpx.specs.Vp9 as vp9
 use Rattle.payload_core_base.specs.Law.{CodecLaw}
-use Rattle.payload_core_base.specs.declared.codec.Codec.{Codec}
-use Rattle.payload_core_base.specs.declared.codec.Codec.TheVariants.{Opus, PCMU, PCMA, G722, CN, AmrWb, H264, H265}
-use Rattle.payload_core_base.specs.declared.codec.Codec.TheVariants.{H266, Vp8, Vp9, Av1, Tele, Rtx, Red, Null}
-use Rattle.payload_core_base.specs.declared.codec.Codec.TheVariants.{Unknown}
+use Rattle.media_types.specs.declared.codec.Codec.{Codec}
+use Rattle.media_types.specs.declared.codec.Codec.TheVariants.{Opus, PCMU, PCMA, G722, CN, AmrWb, H264, H265}
+use Rattle.media_types.specs.declared.codec.Codec.TheVariants.{H266, Vp8, Vp9, Av1, Tele, Rtx, Red, Null}
+use Rattle.media_types.specs.declared.codec.Codec.TheVariants.{Unknown}
 use Rattle.payload_core_audio.specs.AmrWb.{amr_wb_coding}
 use Rattle.payload_core_audio.specs.Plain.{noise_coding, pieces_coding}
 use Rattle.payload_core_audio.specs.Telephone.{telephone_coding}
@@ -33,10 +33,6 @@ pub record TheLaws : Type 0 where
   pub h265_h266 : (layout : Layout) (donl : Bool) → CodecLaw (h265_h266_coding layout donl)
 
 pub keep_codec_law_in : TheLaws → KeepCodecLawInForms
-keep_codec_law_in l f s has_id Opus = l.pieces
-keep_codec_law_in l f s has_id PCMU = l.pieces
-keep_codec_law_in l f s has_id PCMA = l.pieces
-keep_codec_law_in l f s has_id G722 = l.pieces
 keep_codec_law_in l f s has_id CN = l.noise
 keep_codec_law_in l f s has_id AmrWb = l.amr_wb s.octet_align
 keep_codec_law_in l f s has_id H264 = l.h264
@@ -50,46 +46,18 @@ keep_codec_law_in l f s has_id Rtx = λ sender limit sample reached well_formed.
 keep_codec_law_in l f s has_id Red = λ sender limit sample reached well_formed. absurd well_formed
 keep_codec_law_in l f s has_id Null = λ sender limit sample reached well_formed. absurd well_formed
 keep_codec_law_in l f s has_id Unknown = λ sender limit sample reached well_formed. absurd well_formed
+keep_codec_law_in l f s has_id _ = l.pieces
 
 pub keep_codec_law : TheLaws → KeepCodecLaw
 keep_codec_law l s has_id codec = keep_codec_law_in l plain_forms s has_id codec
 
 pub forms_keep_units : vpx.SameUnits → vp9.SameUnits → FormsKeepUnits
-forms_keep_units vp8 vp9 f s has_id Opus sender limit sample room = refl
-forms_keep_units vp8 vp9 f s has_id PCMU sender limit sample room = refl
-forms_keep_units vp8 vp9 f s has_id PCMA sender limit sample room = refl
-forms_keep_units vp8 vp9 f s has_id G722 sender limit sample room = refl
-forms_keep_units vp8 vp9 f s has_id CN sender limit sample room = refl
-forms_keep_units vp8 vp9 f s has_id AmrWb sender limit sample room = refl
-forms_keep_units vp8 vp9 f s has_id H264 sender limit sample room = refl
-forms_keep_units vp8 vp9 f s has_id H265 sender limit sample room = refl
-forms_keep_units vp8 vp9 f s has_id H266 sender limit sample room = refl
 forms_keep_units vp8 vp9 f s has_id Vp8 sender limit sample room = vp8 has_id f.zero_id sender limit sample room
 forms_keep_units vp8 vp9 f s has_id Vp9 sender limit sample room = vp9 f.prediction sender limit sample room
-forms_keep_units vp8 vp9 f s has_id Av1 sender limit sample room = refl
-forms_keep_units vp8 vp9 f s has_id Tele sender limit sample room = refl
-forms_keep_units vp8 vp9 f s has_id Rtx sender limit sample room = refl
-forms_keep_units vp8 vp9 f s has_id Red sender limit sample room = refl
-forms_keep_units vp8 vp9 f s has_id Null sender limit sample room = refl
-forms_keep_units vp8 vp9 f s has_id Unknown sender limit sample room = refl
+forms_keep_units vp8 vp9 f s has_id _ sender limit sample room = refl
 
 -- what is read is the same in all forms
 pub same_format : (f : Forms) (s : Settings) (has_id : Bool) (codec : Codec) → (coding_of s has_id codec).format
     ≡ (coding_in f s has_id codec).format
 same_format f s has_id Opus = refl
-same_format f s has_id PCMU = refl
-same_format f s has_id PCMA = refl
-same_format f s has_id G722 = refl
-same_format f s has_id CN = refl
-same_format f s has_id AmrWb = refl
-same_format f s has_id H264 = refl
-same_format f s has_id H265 = refl
-same_format f s has_id H266 = refl
-same_format f s has_id Vp8 = refl
-same_format f s has_id Vp9 = refl
-same_format f s has_id Av1 = refl
-same_format f s has_id Tele = refl
-same_format f s has_id Rtx = refl
-same_format f s has_id Red = refl
-same_format f s has_id Null = refl
-same_format f s has_id Unknown = refl
+same_format f s has_id _ = refl

@@ -2,8 +2,8 @@
 use Rattle.std.proofs.Common.{◌≡◌, ℕ, zero, suc, ◌<◌, refl, subst, arith, [], ◌∷◌, length}
 use Rattle.std.specs.List.{Contains}
 use Rattle.std.specs.Prelude.{slice_index_or}
-use Rattle.payload_core_base.specs.declared.codec.Codec.{Codec}
-use Rattle.payload_core_base.specs.declared.codec.Codec.TheVariants as codecs
+use Rattle.media_types.specs.declared.codec.Codec.{Codec}
+use Rattle.media_types.specs.declared.codec.Codec.TheVariants as codecs
 use Rattle.h26x_payload.specs.Codings.{first_sender}
 use Rattle.h26x_payload.specs.Packetizers.{codecs_of, sender_under}
 use Rattle.h26x_payload.specs.declared.codec_packetizer.CodecPacketizer.{CodecPacketizer}

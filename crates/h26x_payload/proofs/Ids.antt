@@ -5,8 +5,8 @@ use Rattle.std.specs.List.{Contains}
 use Rattle.payload_core_base.specs.Packing.{Packing, Sent}
 use Rattle.payload_core_base.specs.Pieces.{pieces}
 use Rattle.payload_core_base.specs.declared.error.PacketError.{PacketError}
-use Rattle.payload_core_base.specs.declared.codec.Codec.{Codec}
-use Rattle.payload_core_base.specs.declared.codec.Codec.TheVariants.{Vp8}
+use Rattle.media_types.specs.declared.codec.Codec.{Codec}
+use Rattle.media_types.specs.declared.codec.Codec.TheVariants.{Vp8}
 use Rattle.payload_core_vpx.specs.Vp8.{vp8_packing}
 use Rattle.h26x_payload.specs.Codings.{Forms, Settings, coding_in, with_zero_id}
 

@@ -2,10 +2,10 @@
 use Rattle.std.specs.Prelude.{ℕ, Bool, true, false, nat_lt, List, [], ◌∷◌, Option, None, unwrap_or}
 use Rattle.payload_core_base.specs.Law.{Coding}
 use Rattle.payload_core_base.specs.Packing.{Sender}
-use Rattle.payload_core_base.specs.declared.codec.Codec.{Codec}
-use Rattle.payload_core_base.specs.declared.codec.Codec.TheVariants.{Opus, PCMU, PCMA, G722, CN, AmrWb, H264, H265}
-use Rattle.payload_core_base.specs.declared.codec.Codec.TheVariants.{H266, Vp8, Vp9, Av1, Tele, Rtx, Red, Null}
-use Rattle.payload_core_base.specs.declared.codec.Codec.TheVariants.{Unknown}
+use Rattle.media_types.specs.declared.codec.Codec.{Codec}
+use Rattle.media_types.specs.declared.codec.Codec.TheVariants.{Opus, PCMU, PCMA, G722, CN, AmrWb, H264, H265}
+use Rattle.media_types.specs.declared.codec.Codec.TheVariants.{H266, Vp8, Vp9, Av1, Tele, Rtx, Red, Null}
+use Rattle.media_types.specs.declared.codec.Codec.TheVariants.{Unknown}
 use Rattle.payload_core_audio.specs.AmrWb.{amr_wb_coding}
 use Rattle.payload_core_audio.specs.Plain.{noise_coding, pieces_coding, plain_format, pieces_packing}
 use Rattle.payload_core_audio.specs.Telephone.{telephone_coding}
@@ -16,7 +16,7 @@ use Rattle.h26x_payload_formats.specs.H264Coding.{h264_coding}
 use Rattle.h26x_payload_units.specs.declared.layout.Layout.TheVariants as layouts
 use Rattle.h26x_payload_formats.specs.Coding.{h265_h266_coding}
 
--- What is negotiated beside the codec: AMR-WB's layout, whether H.265 and H.266 have decoding order numbers, and the
+-- What is negotiated besides the codec: AMR-WB's layout, whether H.265 and H.266 use decoding order numbers, and the
 -- clock rate of telephone events.
 pub record Settings : Type 0 where
   pub octet_align : Bool
@@ -35,11 +35,11 @@ settings_of octet_align max_don_diff clock_rate =
           clock_rate;
     }
 
--- Where nothing is said, with telephone events at 8,000 Hz (RFC 4733 7.1.1).
+-- The settings if nothing is said; telephone events have 8,000 Hz (RFC 4733 7.1.1).
 abbrev pub first_settings : Settings
 first_settings = settings_of None None 8000
 
--- Retransmissions, redundancy, no codec and an unknown one have no payload format of their own.
+-- RTX, RED, no codec, and an unknown one have no payload format of their own.
 abbrev pub has_format : Codec → Bool
 has_format Rtx = false
 has_format Red = false
@@ -47,7 +47,7 @@ has_format Null = false
 has_format Unknown = false
 has_format _ = true
 
--- Of these no sample is well-formed.
+-- For these no sample is well-formed.
 abbrev pub no_coding : Coding
 no_coding = record {
   packing = pieces_packing;
@@ -58,12 +58,12 @@ no_coding = record {
   after = λ sender limit sample. sender;
 }
 
--- Forms that are sent where they are asked for: VP8's picture id 0, and which frames of VP9 are predicted.
+-- Options of what is sent: VP8's picture id 0, and VP9's inter-picture prediction flag.
 pub record Forms : Type 0 where
   pub zero_id : Bool
   pub prediction : Bool
 
--- The forms that a stream sends: for browsers VP8's picture id 0 is written, and VP9 tells which frames are predicted.
+-- The options of a stream: for browsers, VP8 writes picture id 0, and VP9 tells which frames are predicted.
 abbrev pub forms_for : Bool → Forms
 forms_for for_browsers = record { zero_id = for_browsers; prediction = for_browsers }
 
@@ -97,14 +97,14 @@ coding_in f s has_id _ = no_coding
 abbrev pub coding_of : Settings → Bool → Codec → Coding
 coding_of s has_id codec = coding_in plain_forms s has_id codec
 
--- Where no sample was sent: the places for waiting parameter sets are empty.
+-- Before the first sample: no parameter set is held back yet.
 abbrev pub empty_places : Codec → List (Option (List ℕ))
 empty_places H264 = None ∷ None ∷ []
 empty_places H265 = None ∷ None ∷ None ∷ []
 empty_places H266 = None ∷ None ∷ None ∷ []
 empty_places _ = []
 
--- VP8 and VP9 begin with the first picture id, the others count from 0.
+-- VP8 and VP9 start with the given picture id, the others with 0.
 abbrev pub first_number : ℕ → Codec → ℕ
 first_number picture_id Vp8 = picture_id
 first_number picture_id Vp9 = picture_id

@@ -5,8 +5,8 @@ use Rattle.payload_core_base.specs.Law.{AreWithin, CodecLaw, Coding, FillsPacket
 use Rattle.payload_core_base.specs.Packing.{Packing, Sender, Sent}
 use Rattle.payload_core_base.specs.declared.error.PacketError.{PacketError}
 use Rattle.payload_core_base.specs.declared.extra.CodecExtra.{CodecExtra}
-use Rattle.payload_core_base.specs.declared.codec.Codec.{Codec}
-use Rattle.payload_core_base.specs.declared.codec.Codec.TheVariants.{Vp8, Vp9}
+use Rattle.media_types.specs.declared.codec.Codec.{Codec}
+use Rattle.media_types.specs.declared.codec.Codec.TheVariants.{Vp8, Vp9}
 use Rattle.h26x_payload.specs.Codings.{Forms, Settings, coding_in, coding_of, first_sender, has_format}
 
 -- Under any settings each codec keeps the codec law.
@@ -17,12 +17,12 @@ KeepCodecLaw = (s : Settings) (has_id : Bool) (codec : Codec) → CodecLaw (codi
 abbrev pub KeepCodecLawInForms : Type 0
 KeepCodecLawInForms = (f : Forms) (s : Settings) (has_id : Bool) (codec : Codec) → CodecLaw (coding_in f s has_id codec)
 
--- The law speaks of the state before the first sample, whatever the first picture id.
+-- The codec law covers the state before the first sample, whatever the first picture id.
 abbrev pub FirstIsReached : Type 0
 FirstIsReached = (s : Settings) (has_id : Bool) (codec : Codec) (picture_id : ℕ) → has_format codec ≡ true
     → picture_id < 32768 → (coding_of s has_id codec).IsReached (first_sender picture_id codec)
 
--- Each packet of VP8 and VP9 but a sample's last has just the limit's bytes.
+-- Every VP8 or VP9 packet except the sample's last is exactly as long as the limit.
 abbrev pub FillPackets : Type 0
 FillPackets = (s : Settings) (has_id : Bool) → FillsPackets (coding_of s has_id Vp8).packing
     × FillsPackets (coding_of s has_id Vp9).packing
@@ -31,13 +31,13 @@ abbrev pub FillPacketsInForms : Type 0
 FillPacketsInForms = (f : Forms) (s : Settings) (has_id : Bool) → FillsPackets (coding_in f s has_id Vp8).packing
     × FillsPackets (coding_in f s has_id Vp9).packing
 
--- At a limit above 4 the forms change no unit.
+-- At limits above 4 bytes, the options don't change the units.
 abbrev pub FormsKeepUnits : Type 0
 FormsKeepUnits = (f : Forms) (s : Settings) (has_id : Bool) (codec : Codec) (sender : Sender) (limit : ℕ)
     (sample : List ℕ) → 4 < limit → (coding_in f s has_id codec).units sender limit sample
     ≡ (coding_of s has_id codec).units sender limit sample
 
--- A codec whose samples are cut so and whose packets are read so.
+-- The codec with this packetizer and this format in place of its own.
 abbrev pub through : Packing → Format → Coding → Coding
 through packing format coding = record {
   packing = packing;
@@ -48,14 +48,14 @@ through packing format coding = record {
   after = coding.after;
 }
 
--- The run had no fault, gave the bytes of these units, one behind the other, and left no fragment open.
+-- The run had no fault, gave the bytes of these units, concatenated, and left no fragment open.
 pub record GivesUnits (run : Run) (units : List (List (List ℕ))) : Type 0 where
   pub no_fault : run.fault ≡ None
   pub written : run.written ≡ joined (map joined units)
   pub closed : run.fragment ≡ None
 
--- The sample is accepted. Its packets have a byte to the limit's, and read in order with no fragment open before they
--- give these units.
+-- The sample is accepted; each packet has between one byte and the limit; and read in order, with no fragment open, the
+-- packets give these units.
 abbrev pub SendsAndGives : Format → ℕ → Result Sent PacketError → List (List (List ℕ)) → Type 0
 SendsAndGives format limit (Ok sent) units =
     AreWithin limit sent.packets × ((extra : CodecExtra) → GivesUnits (read_all format None extra sent.packets) units)
@@ -67,8 +67,8 @@ ComesThrough coding = (sender : Sender) (limit : ℕ) (sample : List ℕ) → co
     → coding.IsWellFormed limit sample → SendsAndGives coding.format limit (coding.packing.pack sender limit sample)
     (coding.units sender limit sample)
 
--- A packetizer and a depacketizer that cut and read as a codec does under the same settings keep the codec law, and a
--- well-formed sample comes through.
+-- A packetizer and a depacketizer that work as a codec does under the same settings obey the codec law, and well-formed
+-- samples come through.
 pub record ArePair (packing : Packing) (format : Format) (coding : Coding) : Type 0 where
   pub law : CodecLaw (through packing format coding)
   pub comes_through : ComesThrough (through packing format coding)

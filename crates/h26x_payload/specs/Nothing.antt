@@ -1,4 +1,4 @@
--- A packetizer and a depacketizer that stand where no caller's object is.
+-- The packetizer and depacketizer used where the caller supplies none.
 use Rattle.std.specs.Prelude.{false, [], Ok}
 use Rattle.payload_core_base.specs.Format.{Format}
 use Rattle.payload_core_base.specs.Packing.{Packing}
@@ -8,7 +8,7 @@ use Rattle.payload_core_base.specs.Stateless.{no_marker, sent_as}
 abbrev pub no_packing : Packing
 no_packing = record { pack = λ sender limit sample. sent_as sender []; marks = no_marker }
 
--- No packet is a head or a tail, and none gives anything.
+-- No packet is a head or a tail, and none gives any bytes.
 abbrev pub no_format : Format
 no_format = record {
   head = λ packet. false;

@@ -1,8 +1,8 @@
 -- A packetizer over all codecs.
 use Rattle.std.specs.Prelude.{Bool, true, false, List, [], ◌∷◌}
 use Rattle.payload_core_base.specs.Packing.{Packing, Sender}
-use Rattle.payload_core_base.specs.declared.codec.Codec.{Codec}
-use Rattle.payload_core_base.specs.declared.codec.Codec.TheVariants as codecs
+use Rattle.media_types.specs.declared.codec.Codec.{Codec}
+use Rattle.media_types.specs.declared.codec.Codec.TheVariants as codecs
 use Rattle.payload_core_audio.specs.AmrWb.{amr_wb_packing}
 use Rattle.payload_core_vpx.specs.Vp8.{vp8_packing}
 use Rattle.payload_core_vpx.specs.Vp9.{vp9_packing}
@@ -14,7 +14,7 @@ use Rattle.h26x_payload.specs.declared.codec_packetizer.CodecPacketizer.TheVaria
 use Rattle.h26x_payload.specs.declared.codec_packetizer.CodecPacketizer.TheVariants.{AmrWb, Telephone, Vp8, Vp9, Av1}
 use Rattle.h26x_payload.specs.declared.codec_packetizer.CodecPacketizer.TheVariants.{H264, H265, H266, Boxed}
 
--- The codecs that a packetizer is for: one that a caller boxed is for none that is known.
+-- The codecs a packetizer handles; a boxed one of a caller's handles none of the known ones.
 abbrev pub codecs_of : {B : Type 0} → CodecPacketizer B → List Codec
 codecs_of (G711 p) = codecs.PCMU ∷ codecs.PCMA ∷ []
 codecs_of (G722 p) = codecs.G722 ∷ []
@@ -37,13 +37,13 @@ packing_under s before (H265 p) = h265_h266_packing layouts.H265 s.donl
 packing_under s before (H266 p) = h265_h266_packing layouts.H266 s.donl
 packing_under s before _ = before
 
--- H.265 and H.266 count from 0 again.
+-- H.265 and H.266 restart their numbers at 0.
 abbrev pub sender_under : {B : Type 0} → Sender → CodecPacketizer B → Sender
 sender_under before (H265 p) = record { number = 0; waiting = before.waiting }
 sender_under before (H266 p) = record { number = 0; waiting = before.waiting }
 sender_under before _ = before
 
--- Whether a setting concerns it.
+-- Whether the settings affect it.
 abbrev pub is_set : {B : Type 0} → CodecPacketizer B → Bool
 is_set (AmrWb p) = true
 is_set (H265 p) = true

@@ -4,17 +4,18 @@ ghost use Rattle.h26x_payload.specs.Codings.{Settings, coding_of, first_settings
 ghost use Rattle.std.specs.Prelude.{◌≡◌, Bool, Contains, IfSome, None, false, is_some};
 
 use h26x_payload_formats::{H264Depacketizer, H265Depacketizer, H266Depacketizer};
+use media_types::Codec;
 use payload_core_audio::{
     AmrWbDepacketizer, ComfortNoiseDepacketizer, G711Depacketizer, OpusDepacketizer,
     TelephoneEventDepacketizer,
 };
 use payload_core_av1::Av1Depacketizer;
-use payload_core_base::{Codec, CodecExtra, Depacketizer, PacketError};
+use payload_core_base::{CodecExtra, Depacketizer, PacketError};
 use payload_core_vpx::{Vp8Depacketizer, Vp9Depacketizer};
 use rtp_wire::Frequency;
 use std::alloc::Global;
 
-/// The depacketizer of a codec, or another one: by default one that a caller boxed.
+/// The depacketizer of a codec, or another one: by default a boxed one of the caller's.
 pub enum CodecDepacketizer<B = Box<dyn Depacketizer + Drop>> {
     /// Of PCMU and PCMA.
     G711(G711Depacketizer),
@@ -44,7 +45,7 @@ pub enum CodecDepacketizer<B = Box<dyn Depacketizer + Drop>> {
     Boxed(B),
 }
 
-/// Written by hand so that crates that drop this type need no proof about its fields.
+/// Written by hand, so that crates that drop this type need no proof about its fields.
 impl<B: Drop> Drop for CodecDepacketizer<B> {
     fn drop(self) {
         match self {
@@ -103,9 +104,10 @@ impl<B: Depacketizer> CodecDepacketizer<B> {
         }
     }
 
-    /// Goes by what was negotiated, before the first packet: AMR-WB by `octet_align` (RFC 4867 8.1), H.265 and H.266
-    /// by `sprop_max_don_diff` (RFC 7798 7.1, RFC 9328 7.2), telephone events by the clock rate in ticks a second
-    /// (RFC 4733 7.1.1). Absent means false and 0. None that a caller boxed is changed.
+    /// Applies what was negotiated; call it before the first packet. AMR-WB depends on
+    /// `octet_align` (RFC 4867 8.1), H.265 and H.266 on `sprop_max_don_diff` (RFC 7798 7.1, RFC
+    /// 9328 7.2), telephone events on the clock rate in ticks a second (RFC 4733 7.1.1). None means
+    /// false and 0. A boxed depacketizer of the caller's isn't changed.
     pub fn configure_for(
         &mut self,
         octet_align: Option<bool>,

@@ -5,17 +5,18 @@ ghost use Rattle.h26x_payload.specs.Codings.{Forms, coding_in, settings_of, with
 ghost use Rattle.std.specs.Prelude.{◌≡◌, ◌<◌, Bool, Contains, IfSome, false, is_some, unwrap_or};
 
 use h26x_payload_formats::{H264Packetizer, H265Packetizer, H266Packetizer};
+use media_types::Codec;
 use payload_core_audio::{
     AmrWbPacketizer, ComfortNoisePacketizer, G711Packetizer, G722Packetizer, OpusPacketizer,
     TelephoneEventPacketizer,
 };
 use payload_core_av1::Av1Packetizer;
-use payload_core_base::{Codec, PacketError, Packetizer};
+use payload_core_base::{PacketError, Packetizer};
 use payload_core_vpx::{Vp8Packetizer, Vp9Packetizer};
 use rtp_wire::Frequency;
 use std::alloc::Global;
 
-/// The packetizer of a codec, or another one: by default one that a caller boxed.
+/// The packetizer of a codec, or another one: by default a boxed one of the caller's.
 pub enum CodecPacketizer<B = Box<dyn Packetizer + Drop>> {
     /// Of PCMU and PCMA.
     G711(G711Packetizer),
@@ -45,7 +46,7 @@ pub enum CodecPacketizer<B = Box<dyn Packetizer + Drop>> {
     Boxed(B),
 }
 
-/// Written by hand so that crates that drop this type need no proof about its fields.
+/// Written by hand, so that crates that drop this type need no proof about its fields.
 impl<B: Drop> Drop for CodecPacketizer<B> {
     fn drop(self) {
         match self {
@@ -121,9 +122,10 @@ impl<B: Packetizer> CodecPacketizer<B> {
         }
     }
 
-    /// Goes by what was negotiated, before the first sample: AMR-WB by `octet_align` (RFC 4867 8.1), H.265 and H.266
-    /// by `sprop_max_don_diff` (RFC 7798 7.1, RFC 9328 7.2), whose units then count from 0. Absent means false and 0.
-    /// The clock rate, in ticks a second, concerns no packetizer; and none that a caller boxed is changed.
+    /// Applies what was negotiated; call it before the first sample. AMR-WB depends on
+    /// `octet_align` (RFC 4867 8.1), H.265 and H.266 on `sprop_max_don_diff` (RFC 7798 7.1, RFC
+    /// 9328 7.2); their decoding order numbers then start at 0. None means false and 0. The clock
+    /// rate affects no packetizer, and a boxed packetizer of the caller's isn't changed.
     pub fn configure_for(
         &mut self,
         octet_align: Option<bool>,
@@ -152,7 +154,8 @@ impl<B: Packetizer> CodecPacketizer<B> {
         }
     }
 
-    /// The same packetizer, which writes VP8's picture id 0 like any other; one of another codec stays as it was.
+    /// The same packetizer, but VP8's picture id 0 is written like any other; other codecs'
+    /// packetizers don't change.
     pub fn with_zero_id(self) -> Self
         ensures variant { codecs_of result ≡ codecs_of self }
         ensures packing { let before = ⟦<CodecPacketizer<B> as Packetizer>⟧.packing self in
@@ -169,8 +172,8 @@ impl<B: Packetizer> CodecPacketizer<B> {
         }
     }
 
-    /// The same packetizer, which tells of VP9's frames whether they are predicted; one of another codec stays as it
-    /// was.
+    /// The same packetizer, but VP9 packets say whether their frame is predicted; other codecs'
+    /// packetizers don't change.
     pub fn with_prediction(self) -> Self
         ensures variant { codecs_of result ≡ codecs_of self }
         ensures packing { let before = ⟦<CodecPacketizer<B> as Packetizer>⟧.packing self in

@@ -3,7 +3,7 @@
 ghost use Rattle.std.specs.Prelude.{◌≡◌};
 ghost use Rattle.h26x_payload.specs.Codings.{has_format};
 
-use payload_core_base::Codec;
+use media_types::Codec;
 
 /// Whether payloads of the codec have a format of their own: it is none of Rtx, Red, Null and Unknown.
 pub fn has_format(codec: Codec) -> bool

@@ -12,10 +12,10 @@ use payload_core_av1::av1_law;
 use payload_core_base::{Depacketizer, Packetizer};
 use payload_core_vpx::{vp8_law, vp9_law};
 
-/// Each codec that `CodecPacketizer::new` answers keeps the codec law, whatever was negotiated, and its packetizer
-/// begins in a state of which the law speaks. Each VP8 and VP9 packet but a sample's last has just the limit's bytes.
-/// All of this holds with VP8's picture id 0 and VP9's prediction too, and at every limit above 4 the units are then
-/// the same.
+/// Every codec that `CodecPacketizer::new` accepts obeys the codec law, whatever was negotiated,
+/// and its packetizer starts in a state that the law covers. Every VP8 or VP9 packet except a
+/// sample's last is as long as the limit. All this also holds with VP8's picture id 0 and VP9's
+/// prediction flag, and at limits above 4 bytes these don't change the units.
 pub fn codec_law()
     ensures codec { KeepCodecLaw }
     ensures first { FirstIsReached }
@@ -34,9 +34,10 @@ pub fn codec_law()
     h265_h266_law();
 }
 
-/// A packetizer and a depacketizer of one codec under the same settings, as `new` and `configure_for` leave them, keep
-/// its codec law. The packets of a well-formed sample have a byte to the limit's and, read in order with no fragment
-/// open before, give the sample's units without a refusal and leave no fragment open.
+/// A packetizer and a depacketizer of one codec with the same settings, as `new` and
+/// `configure_for` leave them, obey its codec law. The packets of a well-formed sample have between
+/// one byte and the limit; read in order, with no fragment open before, they give the sample's
+/// units, none is refused, and no fragment is left open.
 pub fn pair_law<P: Packetizer, D: Depacketizer>(
     packetizer: &CodecPacketizer<P>,
     depacketizer: &CodecDepacketizer<D>,

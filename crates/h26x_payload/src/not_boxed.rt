@@ -3,7 +3,8 @@
 use payload_core_base::{CodecExtra, Depacketizer, PacketError, Packetizer};
 use std::alloc::Global;
 
-/// Stands where no caller's object is: it sends no packet, and takes each packet without giving anything.
+/// Used where the caller supplies no object: it sends no packet, and accepts every packet without
+/// output.
 #[derive(Clone, Copy, Debug, PartialEq, Eq, Drop)]
 pub struct NotBoxed;
 

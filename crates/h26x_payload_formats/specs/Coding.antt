@@ -14,8 +14,8 @@ use Rattle.h26x_payload_formats.specs.Packing.{fragments_of, h265_h266_after, h2
 use Rattle.h26x_payload_formats.specs.Packing.{least_limit, packets_sent}
 use Rattle.h26x_payload_formats.specs.Reading.{h265_h266_format}
 
--- F, the topmost bit of its header, is clear, its type is one of those that stand alone, and it has a byte behind its
--- header.
+-- The unit's F bit (the header's top bit) is clear, its type is one that may be sent as a single NAL unit, and it has
+-- at least one byte after its header.
 abbrev pub IsSendable : Layout → List ℕ → Type 0
 IsSendable l [] = ⊥
 IsSendable l (high ∷ []) = ⊥
@@ -24,7 +24,7 @@ IsSendable l (high ∷ low ∷ body) = (high < 128) × (type_of l high low ≤ l
 abbrev pub AreSendable : Layout → List (List ℕ) → Type 0
 AreSendable l units = EachUnit (IsSendable l) units
 
--- The units that are sent of a sample.
+-- The units sent for a sample.
 abbrev pub h265_h266_units_sent : Layout → Bool → Sender → ℕ → List ℕ → List (List ℕ)
 h265_h266_units_sent l donl s mtu sample =
     units_sent (h265_h266_rules l donl) (least_limit mtu) s.waiting (units_of sample)
@@ -50,12 +50,12 @@ UnitsLaw = (l : Layout) (donl : Bool) (s : Sender) (mtu : ℕ) (sample : List �
     → GivesUnits (read_all (h265_h266_format l donl) None extra (packets_sent l donl s mtu sample))
     (h265_h266_units_sent l donl s mtu sample)
 
--- No packet of any sample passes the limit, nor 1,200 bytes.
+-- No packet exceeds the limit, or 1,200 bytes.
 abbrev pub WithinLaw : Type 0
 WithinLaw = (l : Layout) (donl : Bool) (s : Sender) (mtu : ℕ) (sample : List ℕ)
     → AreWithin (least_limit mtu) (packets_sent l donl s mtu sample)
 
--- Each fragment of a unit but the last fills the limit.
+-- Every fragment of a unit except the last is as long as the limit.
 abbrev pub FullLaw : Type 0
 FullLaw = (l : Layout) (donl : Bool) (limit number : ℕ) (unit : List ℕ) → 4 + donl_size donl ≤ limit
     → AreFull limit (fragments_of l donl limit number unit)

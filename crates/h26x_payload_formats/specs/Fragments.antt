@@ -1,4 +1,4 @@
--- Fragmented H.265 and H.266 units over any packets (RFC 7798 4.4.3, RFC 9328 4.3.3).
+-- Fragmented H.265 and H.266 NAL units in any sequence of packets (RFC 7798 4.4.3, RFC 9328 4.3.3).
 use Rattle.std.specs.Prelude.{◌≡◌, ℕ, Bool, true, false, List, [], ◌∷◌, ◌++◌, None, Ok}
 use Rattle.payload_core_base.specs.Format.{Reading, Run, read_all}
 use Rattle.payload_core_base.specs.declared.extra.CodecExtra.{CodecExtra}
@@ -43,17 +43,18 @@ part_of l donl [] = []
 part_of l donl (high ∷ []) = []
 part_of l donl (high ∷ low ∷ body) = part_by donl (kind_of l high low) body
 
--- S and E of a fragment, the header of the unit that it begins, and its part. Other packets are no fragments.
+-- The S and E bits of a fragment, the header of the unit it starts, and its part of the unit. Other packets are not
+-- fragments.
 abbrev pub h265_h266_view : Layout → Bool → FragmentView
 h265_h266_view l donl =
     record { starts = starts_unit l; ends = ends_unit l; header = header_of l; part = part_of l donl }
 
--- What is read of these packets, from no open fragment.
+-- The result of reading these packets, with no fragment open before them.
 abbrev pub run_of : Layout → Bool → List (List ℕ) → CodecExtra → Run
 run_of l donl ps extra = read_all (h265_h266_format l donl) None extra ps
 
--- Behind packets without a refusal an accepted fragment writes a unit, behind a start code, exactly where it
--- completes that unit, and otherwise nothing.
+-- After packets of which none was refused, an accepted fragment outputs a unit (with its start code) if and only if it
+-- completes that unit; otherwise it outputs nothing.
 abbrev pub FragmentLaw : Type 0
 FragmentLaw = (l : Layout) (donl : Bool) (ps : List (List ℕ)) (last : List ℕ) (extra after : CodecExtra)
     (reading : Reading)

@@ -12,7 +12,7 @@ use Rattle.h26x_payload_formats.specs.H264Headers.{type_of}
 use Rattle.h26x_payload_formats.specs.H264Packing.{fragments_of, h264_after, h264_packing, h264_rules, packets_of}
 use Rattle.h26x_payload_formats.specs.H264Reading.{h264_format}
 
--- F, the topmost bit of its header, is clear, and its type is one of 1 to 23.
+-- The unit's F bit (the header's top bit) is clear, and its type is 1 to 23.
 abbrev pub IsSendable : List ℕ → Type 0
 IsSendable [] = ⊥
 IsSendable (header ∷ body) = (header < 128) × (1 ≤ type_of header) × (type_of header ≤ 23)
@@ -20,7 +20,7 @@ IsSendable (header ∷ body) = (header < 128) × (1 ≤ type_of header) × (type
 abbrev pub AreSendable : List (List ℕ) → Type 0
 AreSendable units = EachUnit IsSendable units
 
--- The packets that a sample leaves in, and the units that are sent of it.
+-- The packets a sample is sent in, and the units sent for it.
 abbrev pub packets_sent : Sender → ℕ → List ℕ → List (List ℕ)
 packets_sent s limit sample = flat_map (packets_of limit) (departures h264_rules limit s.waiting (units_of sample))
 
@@ -42,10 +42,10 @@ abbrev pub UnitsLaw : Type 0
 UnitsLaw = (s : Sender) (limit : ℕ) (sample : List ℕ) (extra : CodecExtra) → AreSendable (units_of sample)
     → GivesUnits (read_all h264_format None extra (packets_sent s limit sample)) (h264_units_sent s limit sample)
 
--- No packet of any sample passes the limit.
+-- No packet exceeds the limit.
 abbrev pub WithinLaw : Type 0
 WithinLaw = (s : Sender) (limit : ℕ) (sample : List ℕ) → AreWithin limit (packets_sent s limit sample)
 
--- Each fragment of a unit but the last fills the limit.
+-- Every fragment of a unit except the last is as long as the limit.
 abbrev pub FullLaw : Type 0
 FullLaw = (limit : ℕ) (unit : List ℕ) → 3 ≤ limit → AreFull limit (fragments_of limit unit)

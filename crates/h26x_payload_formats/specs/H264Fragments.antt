@@ -41,12 +41,12 @@ part_of (first ∷ body) = part_by (kind_of first) body
 abbrev pub h264_view : FragmentView
 h264_view = record { starts = starts_unit; ends = ends_unit; header = header_of; part = part_of }
 
--- What is read of these packets, from no open fragment.
+-- The result of reading these packets, with no fragment open before them.
 abbrev pub run_of : List (List ℕ) → CodecExtra → Run
 run_of ps extra = read_all h264_format None extra ps
 
--- Behind packets without a refusal an accepted FU-A writes a unit, behind a start code, exactly where it completes
--- that unit, and otherwise nothing.
+-- After packets of which none was refused, an accepted FU-A outputs a unit (with its start code) if and only if it
+-- completes that unit; otherwise it outputs nothing.
 abbrev pub FragmentLaw : Type 0
 FragmentLaw = (ps : List (List ℕ)) (last : List ℕ) (extra after : CodecExtra) (reading : Reading)
     → (run_of ps extra).fault ≡ None → is_fu_a last ≡ true

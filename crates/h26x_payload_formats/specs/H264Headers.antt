@@ -7,7 +7,7 @@ use Rattle.h26x_payload_units.specs.declared.layout.PacketKind.TheVariants.{Sing
 abbrev pub type_of : ℕ → ℕ
 type_of header = header % 32
 
--- Types 1 to 23 are units that stand alone, 24 is a STAP-A, 28 an FU-A.
+-- Types 1 to 23 are single NAL units, 24 is a STAP-A, 28 an FU-A.
 abbrev pub kind_of : ℕ → PacketKind
 kind_of header =
     if type_of header == 24 then Aggregate
@@ -15,6 +15,6 @@ kind_of header =
     else (if nat_le 1 (type_of header) && nat_le (type_of header) 23 then Single
     else Unhandled))
 
--- The header of the unit that begins in an FU-A: F and NRI of the packet's first byte, and the type of the FU header.
+-- The header of the NAL unit that an FU-A starts: F and NRI from the packet's first byte, the type from the FU header.
 abbrev pub begun_header : ℕ → ℕ → ℕ
 begun_header first fu = first / 32 * 32 + type_of fu

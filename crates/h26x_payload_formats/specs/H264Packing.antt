@@ -17,7 +17,7 @@ abbrev pub unit_type : List ℕ → ℕ
 unit_type [] = 0
 unit_type (header ∷ body) = type_of header
 
--- Access unit delimiters (9) and filler data (12) aren't sent, the latest SPS (7) and the latest PPS (8) wait.
+-- Access unit delimiters (9) and filler data (12) are not sent; the latest SPS (7) and PPS (8) are held back.
 abbrev pub role_by : ℕ → Role
 role_by type =
     if (type == 9) || (type == 12) then Unsent
@@ -25,15 +25,15 @@ role_by type =
     else (if type == 8 then Waits 1
     else Leaves))
 
--- A STAP-A: NRI 3 and type 24, then the units behind their sizes.
+-- A STAP-A: NRI 3 and type 24, then the units, each preceded by its size.
 abbrev pub stap_a : List (List ℕ) → List ℕ
 stap_a units = 120 ∷ flat_map sized units
 
--- Two bytes hold each size, and the STAP-A is within the limit.
+-- Each unit's size fits in two bytes, and the STAP-A is within the limit.
 abbrev pub can_join : ℕ → List (List ℕ) → Bool
 can_join limit units = list_all (λ unit. nat_le (length unit) 65535) units && nat_le (length (stap_a units)) limit
 
--- A unit is within the limit, or the limit leaves room behind the two bytes of an FU-A.
+-- The unit is within the limit, or the limit leaves room after the two header bytes of an FU-A.
 abbrev pub can_leave : ℕ → List ℕ → Bool
 can_leave limit unit = nat_le (length unit) limit || nat_le 3 limit
 
@@ -51,27 +51,27 @@ abbrev pub fu_a : ℕ → Bool → Bool → List ℕ → List ℕ
 fu_a header first last part = (header / 32 % 4 * 32 + 28)
     ∷ ((if first then 128 else 0) + (if last then 64 else 0) + type_of header) ∷ part
 
--- A unit behind its header, cut into parts that fill the limit.
+-- A unit's bytes after its header, cut into parts that fill the limit.
 abbrev pub fragments_of : ℕ → List ℕ → List (List ℕ)
 fragments_of limit [] = []
 fragments_of limit (header ∷ body) = in_fragments (fu_a header) true (pieces (limit - 2) body)
 
--- The packets of what leaves: a STAP-A, or a unit as it is, or its fragments where it passes the limit.
+-- The packets of a departure: a STAP-A, or a single NAL unit, or its fragments if it exceeds the limit.
 abbrev pub packets_of : ℕ → Departure → List (List ℕ)
 packets_of limit (Together sets) = stap_a sets ∷ []
 packets_of limit (Alone unit) = if nat_le (length unit) limit then unit ∷ [] else fragments_of limit unit
 
--- The sets that wait after a sample's units.
+-- The parameter sets held back after a sample.
 abbrev pub h264_after : Sender → ℕ → List ℕ → Sender
 h264_after s limit sample = record { number = s.number; waiting = waiting_after h264_rules s.waiting (units_of sample) }
 
--- The packets of what leaves of a sample's units, and the sets that wait after them.
+-- The packets sent for a sample, and the parameter sets held back after it.
 abbrev pub pack_h264 : Sender → ℕ → List ℕ → Result Sent PacketError
 pack_h264 s limit sample = Ok (record {
   packets = flat_map (packets_of limit) (departures h264_rules limit s.waiting (units_of sample));
   sender = h264_after s limit sample;
 })
 
--- The last packet of a sample has the marker.
+-- The last packet of a sample has the marker bit.
 abbrev pub h264_packing : Packing
 h264_packing = record { pack = pack_h264; marks = λ packet last. last }

@@ -22,7 +22,7 @@ abbrev pub is_of_type : ℕ → List ℕ → Bool
 is_of_type type [] = false
 is_of_type type (header ∷ body) = type_of header == type
 
--- A fragment with S of a unit of this type.
+-- A fragment with the S bit of a unit of this type.
 abbrev pub starts_type : ℕ → List ℕ → Bool
 starts_type type [] = false
 starts_type type (fu ∷ body) = has_start fu && (type_of fu == type)
@@ -33,12 +33,12 @@ shows_by Aggregate type first body = list_any (is_of_type type) (aggregated 0 0 
 shows_by FragmentKind type first body = starts_type type body
 shows_by Unhandled type first body = false
 
--- Whether a packet shows a unit of this type: is one, holds one, or starts one.
+-- Whether a packet shows a unit of this type: it is one, contains one, or starts one.
 abbrev pub shows_type : ℕ → List ℕ → Bool
 shows_type type [] = false
 shows_type type (first ∷ body) = shows_by (kind_of first) type first body
 
--- An aggregate without a fault gives its units, each behind a start code.
+-- An aggregation packet without a fault gives its units, each preceded by a start code.
 abbrev pub given_units : Fragment → List (List ℕ) → Option PacketError → Result Given PacketError
 given_units fragment units None = gives (flat_map behind_code units) fragment
 given_units fragment units (Some fault) = Err fault

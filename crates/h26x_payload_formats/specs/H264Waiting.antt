@@ -1,4 +1,4 @@
--- How the code of the sender holds the sets that wait.
+-- How the sender's code stores the held-back parameter sets.
 use Rattle.std.specs.Prelude.{◌∷◌, [], option_map}
 use Rattle.h26x_payload_units.specs.Departures.{Waiting}
 use Rattle.h26x_payload_formats.specs.declared.h264_sender.WaitingSets.{WaitingSets}

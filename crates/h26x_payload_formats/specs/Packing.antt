@@ -19,7 +19,8 @@ use Rattle.h26x_payload_units.specs.Headers.{aggregate_high, aggregate_low, frag
 use Rattle.h26x_payload_units.specs.Headers.{layer_of, low_with, needs_vps, tid_of, type_of, unit_kind, unit_type}
 use Rattle.h26x_payload_units.specs.Numbers.{dond_bytes, donl_bytes, donl_size}
 
--- Access unit delimiters and filler data aren't sent, the latest VPS, SPS and PPS wait, any other unit leaves.
+-- Access unit delimiters and filler data are not sent; the latest VPS, SPS and PPS are held back; any other unit is
+-- sent.
 abbrev pub role_in : UnitKind → Role
 role_in Unsent = NotSent
 role_in Vps = Waits 0
@@ -30,33 +31,34 @@ role_in Other = Leaves
 abbrev pub role_by : Layout → ℕ → Role
 role_by l type = role_in (unit_kind l type)
 
--- The least that units have of something.
+-- The minimum of a value over the units.
 abbrev pub least : (List ℕ → ℕ) → List (List ℕ) → ℕ
 least part [] = 0
 least part (u ∷ []) = part u
 least part (u ∷ v ∷ us) = min (part u) (least part (v ∷ us))
 
--- An aggregate: its header with the least layer and TID, then the units behind their sizes.
+-- An aggregation packet: its header with the lowest layer id and TID, then the units, each preceded by its size.
 abbrev pub aggregate : Layout → Bool → ℕ → List (List ℕ) → List ℕ
 aggregate l donl number units = aggregate_high l (least (layer_of l) units)
     ∷ aggregate_low l (least (layer_of l) units) (least tid_of units)
     ∷ in_aggregate (donl_bytes donl number) (dond_bytes l donl) units
 
--- A unit alone: as it is, or with its number behind its header, if it has more than that.
+-- A single NAL unit packet: the unit as it is, or with its decoding order number after its header, if anything follows
+-- the header.
 abbrev pub single : Bool → ℕ → List ℕ → List ℕ
 single donl number unit = if nat_le (length unit) 2 then unit
     else take 2 unit ++ (donl_bytes donl number ++ drop 2 unit)
 
--- Two bytes hold each size, and the aggregate is within the limit.
+-- Each unit's size fits in two bytes, and the aggregation packet is within the limit.
 abbrev pub can_join : Layout → Bool → ℕ → List (List ℕ) → Bool
 can_join l donl limit units = list_all (λ unit. nat_le (length unit) 65535) units
     && nat_le (length (aggregate l donl 0 units)) limit
 
--- A unit is within the limit, or the limit leaves room behind a fragment's header and number.
+-- The unit is within the limit, or the limit leaves room after a fragment's header and decoding order number.
 abbrev pub can_leave : Bool → ℕ → List ℕ → Bool
 can_leave donl limit unit = nat_le (length (single donl 0 unit)) limit || nat_le (4 + donl_size donl) limit
 
--- SPS and PPS are needed, and of H.265 a VPS too; of H.266 one that waits leaves with them.
+-- An SPS and a PPS are needed, and for H.265 a VPS too; for H.266 a VPS that is held back goes along.
 abbrev pub h265_h266_rules : Layout → Bool → Rules
 h265_h266_rules l donl = record {
   role = λ unit. role_by l (unit_type l unit);
@@ -71,7 +73,7 @@ abbrev pub fragment : Layout → Bool → ℕ → ℕ → ℕ → Bool → Bool 
 fragment l donl number high low first last part = high_with l high (fragment_type l) ∷ low_with l low (fragment_type l)
     ∷ fu_byte l first last (type_of l high low) ∷ (donl_bytes (first && donl) number ++ part)
 
--- The parts of a unit behind its header, which fill the limit behind what stands before them.
+-- The unit's bytes after its header, cut into parts that fill each packet after its own header.
 abbrev pub parts_of : Bool → ℕ → List ℕ → List (List ℕ)
 parts_of donl limit body = take (limit - 3 - donl_size donl) body
     ∷ pieces (limit - 3) (drop (limit - 3 - donl_size donl) body)
@@ -98,7 +100,7 @@ packets_of l donl limit n = departure_packets l donl limit n.number n.departure
 abbrev pub least_limit : ℕ → ℕ
 least_limit mtu = min mtu 1200
 
--- What leaves of a sample's units.
+-- The departures of a sample.
 abbrev pub leaving : Layout → Bool → Sender → ℕ → List ℕ → List Departure
 leaving l donl s mtu sample = departures (h265_h266_rules l donl) (least_limit mtu) s.waiting (units_of sample)
 
@@ -106,20 +108,20 @@ abbrev pub packets_sent : Layout → Bool → Sender → ℕ → List ℕ → Li
 packets_sent l donl s mtu sample = flat_map (packets_of l donl (least_limit mtu))
     (numbered s.number (leaving l donl s mtu sample))
 
--- The number of the next unit, and the sets that wait then.
+-- The decoding order number of the next unit, and the parameter sets held back by then.
 abbrev pub h265_h266_after : Layout → Bool → Sender → ℕ → List ℕ → Sender
 h265_h266_after l donl s mtu sample = record {
   number = number_after s.number (leaving l donl s mtu sample);
   waiting = waiting_after (h265_h266_rules l donl) s.waiting (units_of sample);
 }
 
--- The packets of what leaves, and the number of the next unit and the sets that wait then.
+-- The packets sent for a sample, the decoding order number of the next unit, and the parameter sets then held back.
 abbrev pub pack_h265_h266 : Layout → Bool → Sender → ℕ → List ℕ → Result Sent PacketError
 pack_h265_h266 l donl s mtu sample = Ok (record {
   packets = packets_sent l donl s mtu sample;
   sender = h265_h266_after l donl s mtu sample;
 })
 
--- The last packet of a sample has the marker.
+-- The last packet of a sample has the marker bit.
 abbrev pub h265_h266_packing : Layout → Bool → Packing
 h265_h266_packing l donl = record { pack = pack_h265_h266 l donl; marks = λ packet last. last }

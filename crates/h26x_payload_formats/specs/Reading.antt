@@ -22,7 +22,7 @@ use Rattle.h26x_payload_units.specs.Headers.{low_with, type_of, unit_type}
 use Rattle.h26x_payload_units.specs.Numbers.{dond_size, donl_size}
 use Rattle.h26x_payload_units.specs.Reading.{Given, begins_by, gives}
 
--- The units that stand in an aggregate behind its header.
+-- The units in an aggregation packet, after its header.
 abbrev pub aggregated_in : Layout → Bool → List ℕ → Aggregated
 aggregated_in l donl body = aggregated (donl_size donl) (dond_size l donl) body
 
@@ -41,18 +41,18 @@ shows_by l donl Aggregate type body = list_any (is_irap_unit l) (aggregated_in l
 shows_by l donl FragmentKind type body = starts_irap l body
 shows_by l donl Unhandled type body = false
 
--- Whether a packet with its whole header shows a unit of a random access picture: is one, holds one, or starts one.
+-- Whether a packet with a complete header shows an IRAP unit: it is one, contains one, or starts one.
 abbrev pub shows_irap : Layout → Bool → List ℕ → Bool
 shows_irap l donl [] = false
 shows_irap l donl (high ∷ []) = false
 shows_irap l donl (high ∷ low ∷ body) = shows_by l donl (kind_of l high low) (type_of l high low) body
 
--- The fault of what is wrong in a packet.
+-- The error for a corrupted packet.
 abbrev pub corrupted : Layout → PacketError
 corrupted H265 = ErrH265CorruptedPacket
 corrupted H266 = ErrH266CorruptedPacket
 
--- Whether what stands in an aggregate ends before a size does.
+-- Whether an aggregation packet ends within a size field.
 abbrev pub ends_short : Option AggregateFault → Bool
 ends_short None = false
 ends_short (Some CutShort) = true
@@ -63,15 +63,15 @@ abbrev pub is_fragment_short : Bool → List ℕ → Bool
 is_fragment_short donl [] = true
 is_fragment_short donl (fu ∷ part) = nat_lt (length part) (donl_size (has_start fu && donl))
 
--- Whether a packet is cut short behind its header: a unit alone without a byte behind header and number, an aggregate
--- or a fragment that isn't whole.
+-- Whether a packet is cut short after its header: a single NAL unit with nothing after header and decoding order
+-- number, or an incomplete aggregation packet or fragment.
 abbrev pub is_cut_short : Layout → Bool → PacketKind → List ℕ → Bool
 is_cut_short l donl Single body = nat_le (length body) (donl_size donl)
 is_cut_short l donl Aggregate body = ends_short (aggregated_in l donl body).fault
 is_cut_short l donl FragmentKind body = is_fragment_short donl body
 is_cut_short l donl Unhandled body = false
 
--- An aggregate without a fault gives its units, each behind a start code.
+-- An aggregation packet without a fault gives its units, each preceded by a start code.
 abbrev pub given_units : Layout → Fragment → List (List ℕ) → Option AggregateFault → Result Given PacketError
 given_units l fragment units None = gives (flat_map behind_code units) fragment
 given_units l fragment units (Some fault) = Err (corrupted l)
@@ -97,7 +97,7 @@ given_by l donl Aggregate fragment high low body =
 given_by l donl FragmentKind fragment high low body = given_fragment l donl fragment high low body
 given_by l donl Unhandled fragment high low body = Err (NaluTypeIsNotHandled (type_of l high low))
 
--- A packet is refused where it is cut short, then where F is set, then for what it holds.
+-- A packet is refused first if it is cut short, then if F is set, then for its contents.
 abbrev pub given_from : Layout → Bool → PacketKind → Fragment → ℕ → ℕ → List ℕ → Result Given PacketError
 given_from l donl kind fragment high low body =
     if is_cut_short l donl kind body then Err ErrShortPacket
@@ -109,7 +109,7 @@ given l donl fragment [] = Err ErrShortPacket
 given l donl fragment (high ∷ []) = Err ErrShortPacket
 given l donl fragment (high ∷ low ∷ body) = given_from l donl (kind_of l high low) fragment high low body
 
--- What a unit's packets tell: whether one of them showed a random access picture.
+-- What a unit's packets say: whether one of them showed an IRAP picture.
 abbrev pub was_keyframe : Layout → CodecExtra → Bool
 was_keyframe H265 (extras.H265 e) = e.is_keyframe
 was_keyframe H266 (extras.H266 e) = e.is_keyframe
@@ -128,7 +128,7 @@ abbrev pub read_h265_h266 : Layout → Bool → Fragment → CodecExtra → List
 read_h265_h266 l donl fragment extra packet = extra_after l (was_keyframe l extra || shows_irap l donl packet)
     (given l donl fragment packet)
 
--- A second byte that isn't there counts as 0.
+-- A missing second byte counts as 0.
 abbrev pub is_h265_h266_head : Layout → List ℕ → Bool
 is_h265_h266_head l [] = true
 is_h265_h266_head l (high ∷ []) = begins_by (kind_of l high 0) []

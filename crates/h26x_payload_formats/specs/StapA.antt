@@ -1,4 +1,4 @@
--- What is wrong with a STAP-A: its units stand behind their sizes, with nothing before a size (RFC 6184 5.7.1).
+-- Faults of a STAP-A: its units are each preceded by a size, with nothing in front of the size (RFC 6184 5.7.1).
 use Rattle.std.specs.Prelude.{ℕ, ◌+◌, ◌*◌, List, ◌∷◌, length, drop, Option, option_map}
 use Rattle.std.specs.List.{flat_map}
 use Rattle.payload_core_base.specs.declared.error.PacketError.{PacketError}
@@ -7,12 +7,12 @@ use Rattle.h26x_payload_units.specs.declared.aggregates.AggregateFault.{Aggregat
 use Rattle.h26x_payload_units.specs.declared.aggregates.AggregateFault.TheVariants.{CutShort, PastEnd}
 use Rattle.h26x_payload_units.specs.Aggregates.{aggregated, sized}
 
--- What stands behind the whole units.
+-- What follows the last whole unit.
 abbrev pub behind_units : List ℕ → List ℕ
 behind_units body = drop (length (flat_map sized (aggregated 0 0 body).units)) body
 
--- How a fault is told, by what stands behind the whole units: half a size is a short packet; of a size that passes
--- the end it is told how large it is and how many bytes are left.
+-- The error for a fault: half a size field is a short packet; a size that is too large is reported with the number of
+-- bytes left.
 abbrev pub refusal_of : AggregateFault → List ℕ → PacketError
 refusal_of CutShort behind = ErrShortPacket
 refusal_of PastEnd (high ∷ low ∷ rest) = StapASizeLargerThanBuffer (high * 256 + low) (length rest)

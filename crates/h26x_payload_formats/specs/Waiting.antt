@@ -1,4 +1,4 @@
--- How the code of the sender holds the sets that wait and those that leave together, and the form in which it sends.
+-- How the sender's code stores the held-back parameter sets and those sent together, and the form in which it sends.
 use Rattle.std.specs.Prelude.{ℕ, Bool, List, ◌∷◌, ◌++◌, [], Option, None, Some, option_map}
 use Rattle.h26x_payload_units.specs.Aggregates.{sized}
 use Rattle.h26x_payload_units.specs.Departures.{Rules, Waiting, sets_in}
@@ -16,7 +16,7 @@ waiting_in kept = option_map (λ s. s.now) kept.vps ∷ option_map (λ s. s.now)
 abbrev pub joining : Option (List ℕ) → List ℕ → List ℕ → List (List ℕ)
 joining vps sps pps = sets_in (vps ∷ Some sps ∷ Some pps ∷ [])
 
--- What a VPS, if there is one, puts before an SPS: itself behind its size, and DOND where that is sent.
+-- What precedes an SPS if there is a VPS: the VPS with its size, and DOND where it is sent.
 abbrev pub sized_before : Layout → Bool → Option (List ℕ) → List ℕ
 sized_before l donl None = []
 sized_before l donl (Some set) = sized set ++ dond_bytes l donl

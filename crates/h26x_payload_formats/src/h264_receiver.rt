@@ -17,14 +17,14 @@ use h26x_payload_units::{
 use payload_core_base::{CodecExtra, Depacketizer, H264CodecExtra, PacketError};
 use std::alloc::Global;
 
-/// Hands out the units of H.264 packets, each behind a start code of four bytes (RFC 6184 5.6, 5.7.1
-/// and 5.8; ITU-T H.264 annex B).
+/// Hands out the NAL units of H.264 packets, each preceded by a four-byte start code (RFC 6184 5.6,
+/// 5.7.1 and 5.8; ITU-T H.264 annex B).
 pub struct H264Depacketizer {
     alloc: Global,
     unit: OpenUnit,
 }
 
-/// Written by hand so that crates that drop this type need no proof about its fields.
+/// Written by hand, so that crates that drop this type need no proof about its fields.
 impl Drop for H264Depacketizer {
     fn drop(self) {
         let H264Depacketizer {
@@ -50,7 +50,7 @@ fn sized_len(body: &[u8]) -> usize
     len
 }
 
-/// How a fault of an aggregate is told, with what stands behind its whole units.
+/// The error for a fault of an aggregation packet, given the bytes after its whole units.
 fn refusal_of(fault: AggregateFault, behind: &[u8]) -> PacketError
     ensures { result ≡ refusal_of fault behind.now }
 {
@@ -114,8 +114,8 @@ fn starts_type(nalu_type: u8, body: &[u8]) -> bool
     }
 }
 
-/// Whether a packet shows a unit of this type (RFC 6184 5.2): is one, aggregates one before any fault, or is the
-/// first fragment of one.
+/// Whether a packet shows a NAL unit of this type (RFC 6184 5.2): it is one, aggregates one before
+/// any fault, or is the first fragment of one.
 pub fn detect_h264_nalu(packet: &[u8], nalu_type: u8) -> bool
     ensures { result ≡ shows_type nalu_type packet.now }
 {
@@ -148,7 +148,7 @@ fn was_keyframe(extra: &CodecExtra) -> bool
 }
 
 impl H264Depacketizer {
-    /// A depacketizer without an open fragment, which takes memory from `alloc` for the one that it keeps.
+    /// A depacketizer with no open fragment; it allocates from `alloc`.
     pub fn new(alloc: Global) -> Self
         ensures { result.unit ≡ None }
     {

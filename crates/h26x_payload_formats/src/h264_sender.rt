@@ -20,7 +20,7 @@ use h26x_payload_units::{copy_of_set, nal_units, push_sized, set_of};
 use payload_core_base::{PacketError, Packetizer};
 use std::alloc::{AllocError, Global};
 
-// The largest size that two bytes hold.
+// The largest size that fits in two bytes.
 const MAX_AGGREGATED: usize = 65_535;
 
 /// Cuts H.264 access units into packets: single units, STAP-A of the parameter sets, FU-A (RFC 6184 5.6,
@@ -39,7 +39,7 @@ pub struct H264Packetizer {
     pps: Option<Vec<u8>>,
 }
 
-/// Written by hand so that crates that drop this type need no proof about its fields.
+/// Written by hand, so that crates that drop this type need no proof about its fields.
 impl Drop for H264Packetizer {
     fn drop(self) {
         let H264Packetizer {
@@ -49,7 +49,7 @@ impl Drop for H264Packetizer {
     }
 }
 
-// The parameter sets that wait within a sample.
+// The parameter sets held back within a sample.
 #[derive(Clone, Copy, Drop)]
 struct WaitingSets<'a> {
     sps: Option<&'a [u8]>,
@@ -79,7 +79,7 @@ fn stap_a(alloc: Global, sps: &[u8], pps: &[u8]) -> Result<Vec<u8>, AllocError>
     Ok(packet)
 }
 
-/// Sends two parameter sets together, where they can leave.
+/// Sends two parameter sets in one packet, if they fit.
 fn push_together(
     alloc: Global,
     limit: usize,
@@ -144,7 +144,7 @@ fn push_fragments(
     Ok(())
 }
 
-/// Sends a unit by itself, where it can leave.
+/// Sends one NAL unit, if it can be sent.
 fn push_alone(
     alloc: Global,
     limit: usize,
@@ -164,7 +164,8 @@ fn push_alone(
     push_fragments(alloc, limit, unit, packets)
 }
 
-/// Sends a unit that leaves, and before it the parameter sets, where both wait; the sets that wait then.
+/// Sends a NAL unit, preceded by the parameter sets if both are held back; returns the sets held
+/// back afterwards.
 fn push_leaving<'a>(
     alloc: Global,
     limit: usize,
@@ -193,7 +194,7 @@ fn push_leaving<'a>(
     })
 }
 
-/// Sends what leaves with a unit; the sets that wait then.
+/// Sends what is to be sent for a unit; returns the sets held back afterwards.
 fn push_unit<'a>(
     alloc: Global,
     limit: usize,
@@ -242,7 +243,7 @@ fn push_units<'a>(
 }
 
 impl H264Packetizer {
-    /// A packetizer without a waiting parameter set.
+    /// A packetizer that holds back no parameter set.
     pub fn new() -> Self
         ensures sps { option_map (λ v. v.items) result.sps ≡ None }
         ensures pps { option_map (λ v. v.items) result.pps ≡ None }

@@ -61,18 +61,18 @@ pub fn shows_irap(layout: Layout, donl: bool, packet: &[u8]) -> bool
     }
 }
 
-/// Whether an H.265 packet without decoding order numbers shows a random access picture, types 16 to 23 (ITU-T H.265
-/// table 7-1): is a unit of one, aggregates one before any fault, or is the first fragment of one. A packet without
-/// its whole header of two bytes shows none.
+/// Whether an H.265 packet without decoding order numbers shows an IRAP picture, types 16 to 23
+/// (ITU-T H.265 table 7-1): it is a NAL unit of one, aggregates one before any fault, or is the
+/// first fragment of one. A packet without a complete two-byte header shows none.
 pub fn detect_h265_keyframe(packet: &[u8]) -> bool
     ensures { result ≡ shows_irap Layout.H265 false packet.now }
 {
     shows_irap(Layout::H265, false, packet)
 }
 
-/// Whether an H.266 packet without decoding order numbers shows a random access picture, types 7 to 9 (ITU-T H.266
-/// table 5): is a unit of one, aggregates one before any fault, or is the first fragment of one. A packet without its
-/// whole header of two bytes shows none.
+/// Whether an H.266 packet without decoding order numbers shows an IRAP picture, types 7 to 9
+/// (ITU-T H.266 table 5): it is a NAL unit of one, aggregates one before any fault, or is the first
+/// fragment of one. A packet without a complete two-byte header shows none.
 pub fn detect_h266_keyframe(packet: &[u8]) -> bool
     ensures { result ≡ shows_irap Layout.H266 false packet.now }
 {

@@ -18,10 +18,6 @@ mod sender;
 pub use codecs::{
     H265, H265Depacketizer, H265OrH266, H265Packetizer, H266, H266Depacketizer, H266Packetizer,
 };
-pub use h26x_payload_units::{
-    ANNEXB_NALUSTART_CODE, H265FragmentationUnitHeader, H265NALUHeader,
-    H266FragmentationUnitHeader, H266NALUHeader, Layout,
-};
 pub use h264_constants::{
     AUD_NALU_TYPE, FILLER_NALU_TYPE, FU_END_BITMASK, FU_START_BITMASK, FUA_HEADER_SIZE,
     FUA_NALU_TYPE, FUB_NALU_TYPE, IDR_NALU_TYPE, NALU_REF_IDC_BITMASK, NALU_TYPE_BITMASK,

@@ -33,7 +33,7 @@ pub struct H265OrH266Packetizer<L: H265OrH266> {
     pps: Option<Vec<u8>>,
 }
 
-/// Written by hand so that crates that drop this type need no proof about its fields.
+/// Written by hand, so that crates that drop this type need no proof about its fields.
 impl<L: H265OrH266> Drop for H265OrH266Packetizer<L> {
     fn drop(self) {
         let H265OrH266Packetizer {
@@ -48,7 +48,7 @@ impl<L: H265OrH266> Drop for H265OrH266Packetizer<L> {
 }
 
 impl<L: H265OrH266> H265OrH266Packetizer<L> {
-    /// A packetizer without a waiting parameter set, which sends no decoding order numbers.
+    /// A packetizer that holds back no parameter set and sends no decoding order numbers.
     pub fn new() -> Self
         ensures donl { result.donl ≡ false }
         ensures number { result.number ≡ 0 }
@@ -66,8 +66,9 @@ impl<L: H265OrH266> H265OrH266Packetizer<L> {
         }
     }
 
-    /// Whether decoding order numbers are sent from now on, as `sprop-max-don-diff` above 0 asks (RFC 7798 7.1,
-    /// RFC 9328 7.2). The next unit that is sent has number 0, and each one behind it the next number, modulo 65,536.
+    /// Sets whether decoding order numbers are sent from now on, as `sprop-max-don-diff` above 0
+    /// requires (RFC 7798 7.1, RFC 9328 7.2). The next NAL unit sent has number 0, each later one
+    /// the next number, modulo 65,536.
     pub fn with_donl(&mut self, value: bool)
         ensures donl { self.new.donl ≡ value }
         ensures number { self.new.number ≡ 0 }

@@ -10,16 +10,16 @@ use crate::layout_constants::{FRAGMENT_HEADER_SIZE, NALU_HEADER_SIZE};
 use h26x_payload_units::{Layout, donl_size, push_sized};
 use std::alloc::{AllocError, Global};
 
-/// How units are sent: whose they are, with decoding order numbers or without, and the limit.
+/// How units are sent: the codec's layout, with or without decoding order numbers, and the limit.
 #[derive(Clone, Copy, Drop)]
 pub struct Form {
-    /// Where packets are allocated.
+    /// The allocator for packets.
     pub alloc: Global,
     /// Whether units are of H.265 or of H.266.
     pub layout: Layout,
     /// Whether decoding order numbers are sent.
     pub donl: bool,
-    /// The most bytes of a packet.
+    /// The maximum packet size in bytes.
     pub limit: usize,
 }
 

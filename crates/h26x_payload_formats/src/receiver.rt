@@ -15,8 +15,8 @@ use h26x_payload_units::{
 use payload_core_base::{CodecExtra, Depacketizer, H265CodecExtra, H266CodecExtra, PacketError};
 use std::alloc::Global;
 
-/// Hands out the units of packets of H.265 and H.266, each behind a start code of four bytes (RFC 7798 4.4, RFC 9328
-/// 4.3; annex B of ITU-T H.265 and H.266).
+/// Hands out the NAL units of H.265 and H.266 packets, each preceded by a four-byte start code (RFC
+/// 7798 4.4, RFC 9328 4.3; annex B of ITU-T H.265 and H.266).
 pub struct H265OrH266Depacketizer<L: H265OrH266> {
     codec: L,
     alloc: Global,
@@ -24,7 +24,7 @@ pub struct H265OrH266Depacketizer<L: H265OrH266> {
     unit: OpenUnit,
 }
 
-/// Written by hand so that crates that drop this type need no proof about its fields.
+/// Written by hand, so that crates that drop this type need no proof about its fields.
 impl<L: H265OrH266> Drop for H265OrH266Depacketizer<L> {
     fn drop(self) {
         let H265OrH266Depacketizer {
@@ -51,7 +51,7 @@ fn is_cut_short(layout: Layout, donl: bool, kind: PacketKind, body: &[u8]) -> bo
     }
 }
 
-/// Whether what stands in an aggregate ends before a size does.
+/// Whether an aggregation packet ends within a size field.
 fn ends_short(layout: Layout, donl: bool, body: &[u8]) -> bool
     ensures { result ≡ is_cut_short layout donl PacketKind.Aggregate body.now }
 {
@@ -62,7 +62,7 @@ fn ends_short(layout: Layout, donl: bool, body: &[u8]) -> bool
     }
 }
 
-/// The fault of what is wrong in a packet.
+/// The error for a corrupted packet.
 fn corrupted(layout: Layout) -> PacketError
     ensures { result ≡ corrupted layout }
 {
@@ -94,8 +94,8 @@ fn extra_of(layout: Layout, is_keyframe: bool) -> CodecExtra
 }
 
 impl<L: H265OrH266> H265OrH266Depacketizer<L> {
-    /// A depacketizer without an open fragment, which takes memory from `alloc` for the one that it keeps, and reads
-    /// packets without decoding order numbers.
+    /// A depacketizer with no open fragment, for packets without decoding order numbers; it
+    /// allocates from `alloc`.
     pub fn new(alloc: Global) -> Self
         ensures donl { result.donl ≡ false }
         ensures unit { result.unit ≡ None }

@@ -1,4 +1,4 @@
-//! What leaves of the units of H.265 and H.266 (RFC 7798 4.4, RFC 9328 4.3).
+//! Which NAL units of H.265 and H.266 are sent (RFC 7798 4.4, RFC 9328 4.3).
 
 ghost use Rattle.h26x_payload_formats.specs.Packing.{fragment, fragments_of, role_by};
 ghost use Rattle.h26x_payload_formats.specs.Waiting.{joining, packets_in, rules_in, sized_before, waiting_in};
@@ -19,20 +19,20 @@ use crate::packets::{Cut, Form, aggregate, fragment, single, single_size};
 use h26x_payload_units::{UnitKind, donl_size, nal_units};
 use std::alloc::AllocError;
 
-// The largest size that two bytes hold.
+// The largest size that fits in two bytes.
 const MAX_AGGREGATED: usize = 65_535;
 
-/// What is kept from unit to unit within a sample: the decoding order number of the next one, and the parameter sets
-/// that wait.
+/// The state kept from one NAL unit to the next within a sample: the next decoding order number,
+/// and the held-back parameter sets.
 #[derive(Clone, Copy, Drop)]
 pub struct Kept<'a> {
     /// The next decoding order number.
     pub number: u16,
-    /// The video parameter set that waits.
+    /// The held-back VPS.
     pub vps: Option<&'a [u8]>,
-    /// The sequence parameter set that waits.
+    /// The held-back SPS.
     pub sps: Option<&'a [u8]>,
-    /// The picture parameter set that waits.
+    /// The held-back PPS.
     pub pps: Option<&'a [u8]>,
 }
 
@@ -56,8 +56,8 @@ fn size_before(form: Form, vps: Option<&[u8]>) -> usize
     }
 }
 
-/// Sends an SPS and a PPS together, and a VPS before them, if there is one, where they can leave; the number of the
-/// next unit.
+/// Sends an SPS and a PPS in one packet, preceded by a VPS if there is one, if they fit; returns
+/// the next unit's number.
 fn push_together(
     form: Form,
     number: u16,
@@ -156,7 +156,8 @@ fn push_alone(
     Ok(number.wrapping_add(1))
 }
 
-/// Sends a unit that leaves, and before it the parameter sets, where the needed ones wait; what is kept then.
+/// Sends a NAL unit, preceded by the parameter sets if the needed ones are held back; returns the
+/// state afterwards.
 fn push_leaving<'a>(
     form: Form,
     unit: &[u8],

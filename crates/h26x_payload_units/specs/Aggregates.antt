@@ -1,20 +1,20 @@
--- Units that stand in an aggregate, each behind its size in two bytes, and other bytes before the sizes where a
--- format has them (RFC 7798 4.4.2, RFC 9328 4.3.2).
+-- Units in an aggregation packet, each preceded by a two-byte size, and by other bytes before the size where the format
+-- has them (RFC 7798 4.4.2, RFC 9328 4.3.2).
 use Rattle.std.specs.Prelude.{ℕ, zero, suc, ◌+◌, ◌*◌, ◌/◌, ◌%◌, List, [], ◌∷◌, ◌++◌, length, take, drop, nat_le}
 use Rattle.std.specs.Prelude.{Option, Some, None, if◌then◌else◌}
 use Rattle.h26x_payload_units.specs.declared.aggregates.AggregateFault.{AggregateFault}
 use Rattle.h26x_payload_units.specs.declared.aggregates.AggregateFault.TheVariants.{CutShort, PastEnd}
 
--- A unit behind its size.
+-- A unit preceded by its size.
 abbrev pub sized : List ℕ → List ℕ
 sized unit = length unit / 256 ∷ length unit % 256 ∷ unit
 
--- Units behind their sizes, with these bytes before the first size and those before each later one.
+-- Units preceded by their sizes, with these bytes before the first size and those before each later one.
 abbrev pub in_aggregate : List ℕ → List ℕ → List (List ℕ) → List ℕ
 in_aggregate first later [] = []
 in_aggregate first later (u ∷ us) = first ++ (sized u ++ in_aggregate later later us)
 
--- What stands in an aggregate: whole units, and what is wrong behind them, if anything.
+-- The contents of an aggregation packet: its whole units, and the fault after them, if any.
 pub record Aggregated : Type 0 where
   pub units : List (List ℕ)
   pub fault : Option AggregateFault
@@ -25,8 +25,8 @@ with_first unit others = record { units = unit ∷ others.units; fault = others.
 abbrev pub only_fault : Option AggregateFault → Aggregated
 only_fault fault = record { units = []; fault = fault }
 
--- From a size on: the unit behind it, and what is behind that. Fewer than two bytes are no size, and a size past the
--- end leaves no unit.
+-- Reading at a size field: the unit of that size, then the rest. Fewer than two bytes are CutShort; a size past the end
+-- is PastEnd.
 abbrev pub from_size : (List ℕ → Aggregated) → List ℕ → Aggregated
 from_size others [] = only_fault (Some CutShort)
 from_size others (high ∷ []) = only_fault (Some CutShort)

@@ -1,12 +1,13 @@
--- The cut of a text into NAL units (ITU-T H.264 annex B): the text is put together from start codes and stretches.
+-- Cutting a byte stream into NAL units (ITU-T H.264 annex B): the text is a sequence of start codes and the stretches
+-- between them.
 use Rattle.std.specs.Prelude.{◌≡◌, ◌≢◌, ℕ, ◌<◌, ◌≤◌, List, [], ◌∷◌, ◌++◌, ◌⊎◌, length, replicate}
 
--- A start code, which is so many zeros and 01, and what stands behind it up to the next one.
+-- A start code (so many zeros, then 01) and what follows up to the next one.
 pub record Piece : Type 0 where
   pub zeros : ℕ
   pub stretch : List ℕ
 
--- A text's first stretch, which no start code precedes, and the pieces behind it.
+-- The stretch before the first start code, and the pieces after it.
 pub record Layout : Type 0 where
   pub first : List ℕ
   pub pieces : List Piece
@@ -16,15 +17,15 @@ abbrev pub joined : List Piece → List ℕ
 joined [] = []
 joined (p ∷ ps) = replicate p.zeros 0 ++ (1 ∷ (p.stretch ++ joined ps))
 
--- No start code stands in it.
+-- The text contains no start code (00 00 01).
 abbrev pub HoldsNoCode : List ℕ → Type 0
 HoldsNoCode text = (before behind : List ℕ) → text ≢ before ++ (0 ∷ 0 ∷ 1 ∷ behind)
 
 abbrev pub EndsInNoZero : List ℕ → Type 0
 EndsInNoZero text = (before : List ℕ) → text ≢ before ++ 0 ∷ []
 
--- A stretch holds no start code; and one that a start code follows doesn't end in a zero, since that start code has
--- the longest run of zeros.
+-- A stretch contains no start code, and doesn't end in a zero if a start code follows: that zero would belong to the
+-- start code.
 abbrev pub IsStretch : List ℕ → List Piece → Type 0
 IsStretch text [] = HoldsNoCode text
 IsStretch text (p ∷ ps) = HoldsNoCode text × EndsInNoZero text
@@ -34,7 +35,7 @@ abbrev pub ArePieces : List Piece → Type 0
 ArePieces [] = Unit {0}
 ArePieces (p ∷ ps) = (2 ≤ p.zeros) × (IsStretch p.stretch ps × ArePieces ps)
 
--- A text is put together so.
+-- The text has this layout.
 pub record IsLaidOut (text : List ℕ) (layout : Layout) : Type 0 where
   pub put_together : text ≡ layout.first ++ joined layout.pieces
   pub is_first : IsStretch layout.first layout.pieces
@@ -49,7 +50,7 @@ abbrev pub units_of_pieces : List Piece → List (List ℕ)
 units_of_pieces [] = []
 units_of_pieces (p ∷ ps) = with_unit p.stretch (units_of_pieces ps)
 
--- The units stand behind the start codes; a text without one is a unit.
+-- The units are the stretches after start codes; a text without a start code is one unit.
 abbrev pub units_of_layout : List ℕ → List Piece → List (List ℕ)
 units_of_layout first [] = with_unit first []
 units_of_layout first (p ∷ ps) = units_of_pieces (p ∷ ps)
@@ -60,7 +61,7 @@ pub record IsCut (text : List ℕ) (units : List (List ℕ)) : Type 0 where
   pub is_laid_out : IsLaidOut text layout
   pub are_units : units ≡ units_of_layout layout.first layout.pieces
 
--- A unit isn't empty, and holds no start code.
+-- A unit is not empty, and contains no start code.
 pub record IsUnit (unit : List ℕ) : Type 0 where
   pub is_nonempty : 0 < length unit
   pub holds_none : HoldsNoCode unit
@@ -76,13 +77,13 @@ abbrev pub text_of : List (List ℕ) → List ℕ
 text_of [] = []
 text_of (u ∷ us) = 0 ∷ 0 ∷ 0 ∷ 1 ∷ (u ++ text_of us)
 
--- A start code stands at the text's front.
+-- The text begins with a start code.
 pub record BeginsWithCode (text : List ℕ) : Type 0 where
   pub zeros : ℕ
   pub behind : List ℕ
   pub enough : 2 ≤ zeros
   pub put_together : text ≡ replicate zeros 0 ++ (1 ∷ behind)
 
--- A unit reaches up to here: to the text's end, or to a start code, which has all the zeros before its 01.
+-- The unit ends here: at the end of the text, or at a start code that takes in all zeros before its 01.
 abbrev pub ReachesTo : List ℕ → List ℕ → Type 0
 ReachesTo unit behind = (behind ≡ []) ⊎ (BeginsWithCode behind × EndsInNoZero unit)

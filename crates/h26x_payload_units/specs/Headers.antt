@@ -26,7 +26,8 @@ abbrev pub low_with : Layout → ℕ → ℕ → ℕ
 low_with H265 low type = low
 low_with H266 low type = type % 32 * 8 + low % 8
 
--- Types up to this one are units that stand alone, the next one is an aggregate, and the one behind it a fragment.
+-- Types up to this one are single NAL units; the next is the aggregation packet, and the one after it the fragmentation
+-- unit.
 abbrev pub last_alone : Layout → ℕ
 last_alone H265 = 47
 last_alone H266 = 27
@@ -54,7 +55,7 @@ abbrev pub is_irap : Layout → ℕ → Bool
 is_irap H265 type = nat_le 16 type && nat_le type 23
 is_irap H266 type = nat_le 7 type && nat_le type 9
 
--- What a unit of a type is to a sender: access unit delimiters and filler data aren't sent, parameter sets wait
+-- How a sender treats each type: access unit delimiters and filler data are not sent, parameter sets are held back
 -- (ITU-T H.265 table 7-1, ITU-T H.266 table 5).
 abbrev pub unit_kind : Layout → ℕ → UnitKind
 unit_kind H265 type =
@@ -70,7 +71,7 @@ unit_kind H266 type =
     else (if type == 16 then Pps
     else Other)))
 
--- Whether parameter sets wait for a VPS.
+-- Whether a VPS is required before the parameter sets are sent.
 abbrev pub needs_vps : Layout → Bool
 needs_vps H265 = true
 needs_vps H266 = false

@@ -15,13 +15,13 @@ pub record Given : Type 0 where
 abbrev pub gives : List ℕ → Fragment → Result Given PacketError
 gives written fragment = Ok (record { written = written; fragment = fragment })
 
--- The packet's bytes stand behind those of the old output, and this is the open unit.
+-- The output is the old one plus the packet's bytes, and this is the open unit.
 abbrev pub Adds : Result Given PacketError → List ℕ → List ℕ → Fragment → Type 0
 Adds (Err e) old new fragment = ⊥
 Adds (Ok g) old new fragment = (new ≡ old ++ g.written) × (fragment ≡ g.fragment)
 
--- By what stands behind a packet's header, a fragment begins a unit where its first byte has S, and ends one where
--- that byte has E. Other packets are no fragments.
+-- By the first byte after the packet's header, a fragment starts a unit if it has S and ends one if it has E. Other
+-- packets are not fragments.
 abbrev pub is_fragment_kind : PacketKind → Bool
 is_fragment_kind FragmentKind = true
 is_fragment_kind _ = false
@@ -34,7 +34,7 @@ abbrev pub ends_by : PacketKind → List ℕ → Bool
 ends_by FragmentKind (fu ∷ part) = has_end fu
 ends_by _ body = false
 
--- A fragment is a head if it has S, and every other packet is one.
+-- A fragment is a head if it has S; every other packet is a head.
 abbrev pub begins_by : PacketKind → List ℕ → Bool
 begins_by FragmentKind [] = false
 begins_by FragmentKind (fu ∷ part) = has_start fu

@@ -7,8 +7,8 @@ use Rattle.h26x_payload_units.specs.Cut.{units_of_pieces, with_unit}
 abbrev pub is_code : ℕ → ℕ → ℕ → Bool
 is_code a b c = (a == 0) && ((b == 0) && (c == 1))
 
--- A byte before a first stretch and pieces: it completes a start code, or is a further zero of the first one, or
--- stands in the first stretch.
+-- A byte in front of a stretch and pieces: it completes a start code, adds a zero to the first one, or belongs to the
+-- stretch.
 abbrev pub with_byte : ℕ → List ℕ → List Piece → Layout
 with_byte a [] [] = record { first = a ∷ []; pieces = [] }
 with_byte a [] (p ∷ ps) =
@@ -28,7 +28,7 @@ layout_of (a ∷ text) = let layout = layout_of text in with_byte a layout.first
 unfoldable pub units_of : List ℕ → List (List ℕ)
 units_of text = let layout = layout_of text in units_of_layout layout.first layout.pieces
 
--- The units of a text that stands behind a start code.
+-- The units of a text that follows a start code.
 unfoldable pub units_behind : List ℕ → List (List ℕ)
 units_behind text = let layout = layout_of text in with_unit layout.first (units_of_pieces layout.pieces)
 
@@ -41,7 +41,7 @@ abbrev pub without_zeros : List ℕ → List ℕ
 without_zeros [] = []
 without_zeros (a ∷ text) = with_front a (without_zeros text)
 
--- Each text is cut in just one way.
+-- Every text is cut in exactly one way.
 abbrev pub CutLaw : Type 0
 CutLaw = (text : List ℕ) (units : List (List ℕ)) → IsCut text units ↔ (units ≡ units_of text)
 
@@ -49,12 +49,12 @@ CutLaw = (text : List ℕ) (units : List (List ℕ)) → IsCut text units ↔ (u
 abbrev pub UnitsLaw : Type 0
 UnitsLaw = (text : List ℕ) → AreUnits (units_of text)
 
--- Units that are put behind start codes come back.
+-- Units joined with start codes are cut back into the same units.
 abbrev pub ComesBack : Type 0
 ComesBack = (units : List (List ℕ)) → AreUnits units → units_of (text_of units) ≡ units
 
--- What stands right behind a start code and reaches to the next one or the end is handed out, behind the units before
--- it and before those behind it.
+-- The bytes between a start code and the next one (or the end) are one unit, in its place: after the units before it,
+-- before those after it.
 abbrev pub PlaceLaw : Type 0
 PlaceLaw = (before unit behind : List ℕ) → IsUnit unit → ReachesTo unit behind
     → units_of (before ++ (0 ∷ 0 ∷ 1 ∷ (unit ++ behind))) ≡ units_of (before ++ (0 ∷ 0 ∷ 1 ∷ []))

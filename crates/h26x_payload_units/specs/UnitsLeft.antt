@@ -4,7 +4,7 @@ use Rattle.std.specs.Iterator.{Drains, YieldsFirstRef}
 use Rattle.h26x_payload_units.specs.declared.iteration.NalUnits.{NalUnits}
 use Rattle.h26x_payload_units.specs.Units.{units_behind}
 
--- The units that are still to come.
+-- The units the iterator has yet to yield.
 abbrev pub units_left : NalUnits → List (List ℕ)
 units_left it = units_behind it.rest.now
 

@@ -8,12 +8,12 @@ ghost use Rattle.std.specs.Prelude.{ℕ, ◌≡◌, ◌<◌, ◌≤◌, ◌++◌
 use crate::open_unit::push_unit;
 use std::alloc::{AllocError, Global};
 
-/// What is wrong with an aggregate behind its whole units.
+/// The fault of an aggregation packet, after its whole units.
 #[derive(Clone, Copy, Drop)]
 pub enum AggregateFault {
-    /// The bytes end before a size does.
+    /// The bytes end before a complete size.
     CutShort,
-    /// A size passes the end.
+    /// A size exceeds the bytes left.
     PastEnd,
 }
 
@@ -48,8 +48,8 @@ pub fn first_aggregated(lead: usize, body: &[u8]) -> Result<(&[u8], &[u8]), Aggr
     Ok(rest.split_at(size))
 }
 
-/// What is wrong with an aggregate behind its whole units, if anything, with `lead` bytes before the first size and
-/// `later` before each later one.
+/// The fault of an aggregation packet after its whole units, if any, with `lead` bytes before the
+/// first size and `later` before each later one.
 pub fn aggregate_fault(lead: usize, later: usize, body: &[u8]) -> Option<AggregateFault>
     ensures { result ≡ (aggregated lead later body.now).fault }
 {

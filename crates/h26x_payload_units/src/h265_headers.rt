@@ -7,7 +7,7 @@ ghost use Rattle.std.specs.Prelude.{◌≡◌, ◌<◌, ◌==◌, nat_lt};
 
 use crate::layout::{Layout, has_end, has_start};
 
-/// The two bytes at the head of a unit or a packet, the first one high (RFC 7798 1.1.4).
+/// The two-byte header of a NAL unit or packet, big-endian (RFC 7798 1.1.4).
 #[derive(Clone, Copy, Debug, PartialEq, Eq, Drop)]
 pub struct H265NALUHeader(pub u16);
 
@@ -96,7 +96,7 @@ impl H265NALUHeader {
     }
 }
 
-/// The byte behind a fragment's header: S, E and the type of the unit (RFC 7798 4.4.3).
+/// The FU header: S, E and the type of the NAL unit (RFC 7798 4.4.3).
 #[derive(Clone, Copy, Debug, PartialEq, Eq, Drop)]
 pub struct H265FragmentationUnitHeader(pub u8);
 

@@ -7,7 +7,7 @@ ghost use Rattle.std.specs.Prelude.{◌≡◌, ◌==◌, ◌+◌, ◌*◌, if◌
 
 use crate::layout::{Layout, has_end, has_start};
 
-/// The two bytes at the head of a unit or a packet, the first one high (RFC 9328 1.1.4).
+/// The two-byte header of a NAL unit or packet, big-endian (RFC 9328 1.1.4).
 #[derive(Clone, Copy, Debug, PartialEq, Eq, Drop)]
 pub struct H266NALUHeader(pub u16);
 
@@ -35,7 +35,7 @@ impl H266NALUHeader {
         self.0 >= 32_768
     }
 
-    /// Z, the bit behind F, which is reserved and clear.
+    /// Z, the reserved bit after F, which is clear.
     pub fn z(&self) -> bool
         ensures { result ≡ word_has_z self.now.0 }
     {
@@ -85,7 +85,7 @@ impl H266NALUHeader {
     }
 }
 
-/// The byte behind a fragment's header: S, E, P and the type of the unit (RFC 9328 4.3.3).
+/// The FU header: S, E, P and the type of the NAL unit (RFC 9328 4.3.3).
 #[derive(Clone, Copy, Debug, PartialEq, Eq, Drop)]
 pub struct H266FragmentationUnitHeader(pub u8);
 

@@ -6,17 +6,18 @@ ghost use Rattle.h26x_payload_units.specs.UnitsLeft.{units_left};
 
 use crate::places::{code_place, first_stretch};
 
-/// The NAL units of a byte stream that are still to come, in order, each as the slice where it stands. No unit is
-/// empty. It takes no memory.
+/// An iterator over the remaining NAL units of a byte stream, each a slice of it. No unit is empty.
+/// It doesn't allocate.
 #[derive(Clone, Debug, Drop)]
 pub struct NalUnits<'a> {
     // What stands behind the start code that was read last, or the whole byte stream where it holds none.
     rest: &'a [u8],
 }
 
-/// The NAL units of a byte stream (ITU-T H.264 annex B): what stands between its start codes, and behind the last
-/// one. A start code is two or more zeros, as many as there are, and the 01 behind them. What stands before the first
-/// start code is none; a byte stream without a start code is one unit, unless it is empty.
+/// The NAL units of a byte stream (ITU-T H.264 annex B): the bytes between its start codes, and
+/// after the last one. A start code is 01 preceded by two or more zeros, all that are there. Bytes
+/// before the first start code are skipped; a nonempty byte stream without a start code is one
+/// unit.
 pub fn nal_units(stream: &[u8]) -> NalUnits<'_>
     ensures { units_left result ≡ units_of stream.now }
 {

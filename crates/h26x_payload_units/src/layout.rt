@@ -45,8 +45,8 @@ pub enum UnitKind {
 }
 
 impl PacketKind {
-    /// Whether a packet of this kind is the head of a frame, by what stands behind its header: a fragment where its
-    /// first byte has S, and every other packet.
+    /// Whether a packet of this kind is the head of a frame, given the bytes after its header: a
+    /// fragment if it has S; any other packet always.
     pub fn is_head(self, body: &[u8]) -> bool
         ensures { result ≡ begins_by self body.now }
     {
@@ -192,7 +192,7 @@ impl Layout {
         }
     }
 
-    /// Whether parameter sets wait for a VPS.
+    /// Whether a VPS is required before the parameter sets are sent.
     pub fn needs_vps(self) -> bool
         ensures { result ≡ needs_vps self }
     {

@@ -1,7 +1,7 @@
-//! Texts cut into NAL units at their start codes (ITU-T H.264 annex B), and the rules that the payload formats of
-//! H.264, H.265 and H.266 share, with what holds of them: which units of samples leave and which wait, how units
-//! stand in an aggregate, how a unit is cut into fragments, and which units fragments give (RFC 6184, RFC 7798,
-//! RFC 9328). Of H.265 and H.266 also the headers, by their layout.
+//! Cutting byte streams into NAL units at their start codes (ITU-T H.264 annex B), and the rules
+//! that the H.264, H.265 and H.266 payload formats share, with their laws: which NAL units are sent
+//! and which are held back, aggregation packets, fragmentation, and reassembly (RFC 6184, RFC 7798,
+//! RFC 9328). For H.265 and H.266 also the headers, by layout.
 #![tactic(auto)]
 
 mod aggregates;

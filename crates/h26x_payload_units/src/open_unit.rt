@@ -62,7 +62,7 @@ pub struct OpenUnit {
     bytes: Option<Vec<u8>>,
 }
 
-/// Written by hand so that crates that drop this type need no proof about its fields.
+/// Written by hand, so that crates that drop this type need no proof about its fields.
 impl Drop for OpenUnit {
     fn drop(self) {
         let OpenUnit {

@@ -1,4 +1,4 @@
-//! Parameter sets that wait for the next sample.
+//! Parameter sets held back for the next sample.
 
 ghost use Rattle.std.specs.Prelude.{◌≡◌, IfOk, option_map};
 

@@ -8,7 +8,8 @@ ghost use Rattle.h26x_payload_units.specs.Cut.{with_unit};
 /// How many places are looked at together.
 const BLOCK: usize = 32;
 
-/// Whether no two zeros stand side by side from a place on, so that no start code begins in the block there.
+/// Whether no two zeros are adjacent from this position on, so that no start code begins in the
+/// block there.
 fn is_free(text: &[u8], start: usize) -> bool
     requires { start + 33 ≤ length text.now }
     ensures { IsTrue result → HasNoCodeBetween text.now start (start + 32) }
@@ -22,7 +23,7 @@ fn is_free(text: &[u8], start: usize) -> bool
     least > 0
 }
 
-/// The place of the first 00 00 01 that begins from `start` on and before `end`.
+/// The position of the first 00 00 01 that begins at or after `start` and before `end`.
 fn place_between(text: &[u8], start: usize, end: usize) -> Option<usize>
     requires { end ≤ length text.now - 2 }
     ensures { MatchOption result (HasNoCodeBetween text.now start end)
@@ -30,7 +31,7 @@ fn place_between(text: &[u8], start: usize, end: usize) -> Option<usize>
 {
     let mut i = start;
     while i < end {
-        // A third byte above 0 rules out the next two places too.
+        // A nonzero third byte also rules out the next two positions.
         let third = text[i + 2];
         if third == 0 {
             i += 1;
@@ -75,8 +76,8 @@ pub fn without_zeros(text: &[u8]) -> &[u8]
     kept
 }
 
-/// What stands before the first start code (ITU-T H.264 annex B), and behind it; all and nothing
-/// without one.
+/// What precedes the first start code (ITU-T H.264 annex B), and what follows it; everything and
+/// nothing if there is none.
 pub fn first_stretch(text: &[u8]) -> (&[u8], &[u8])
     ensures units { units_behind text.now ≡ with_unit result.0.now (units_behind result.1.now) }
     ensures shorter { 0 < length text.now → length result.1.now < length text.now }

@@ -3,12 +3,12 @@
 ghost use Rattle.h26x_payload_units.specs.Units.{ComesBack, CutLaw, PlaceLaw, UnitsLaw};
 ghost use Rattle.h26x_payload_units.specs.UnitsLeft.{HandsOutAll};
 
-/// Each text is put together in just one way: stretches that hold no start code, and between them start codes of
-/// two or more zeros and 01, each with all zeros before its 01. Its units are the stretches behind the start
-/// codes that aren't empty, in order; without a start code the text is a unit, unless it is empty. Units that
-/// are written each behind 00 00 00 01 come back, where none but the last ends in a zero. What stands right behind
-/// a start code, holds none and reaches to the next one or the end is handed out, between the units of what
-/// stands before it and behind it.
+/// Every text is cut in exactly one way: into stretches without a start code, separated by start
+/// codes of two or more zeros and 01, each including all zeros before its 01. The units are the
+/// nonempty stretches after start codes, in order; a nonempty text without a start code is one
+/// unit. Units written with 00 00 00 01 before each are read back, if none but the last ends in a
+/// zero. Bytes that directly follow a start code, contain none and extend to the next one or the
+/// end are one unit, between the units of what precedes and what follows.
 pub fn cut_law()
     ensures cut { CutLaw }
     ensures units { UnitsLaw }
@@ -16,8 +16,8 @@ pub fn cut_law()
     ensures comes_back { ComesBack }
 {}
 
-/// The units that an iterator hands out until it returns None are all that it has left, in order; so those of
-/// a fresh one are the text's.
+/// An iterator yields exactly its remaining units, in order, until it returns None; so a new one
+/// yields the text's.
 pub fn nal_units_law()
     ensures { HandsOutAll }
 {}

@@ -1,146 +1,208 @@
-//! Browsers' offers and answers at the end of a handle.
+//! Offers and answers of browsers.
+//! Each call returns `CLOSED` at a closed handle, and changes nothing then.
 
-ghost use Rattle.std.specs.Prelude.{◌≡◌, ◌≢◌};
-ghost use Rattle.jilqamur_media.specs.Codes.{ok, memory, closed, nothing};
-ghost use Rattle.jilqamur_media.specs.Handles.{AtObject};
-ghost use Rattle.jilqamur_ends.specs.Answers.{WithText};
-ghost use Rattle.jilqamur_ends.specs.Browsers.{AnswersOffered, AnswersTaken};
-ghost use Rattle.jilqamur_ends.specs.Dressing.{AtSetup, Dresses, WithTexts, are_texts, setup_of, transport_of};
-ghost use Rattle.jilqamur_ends.specs.HeldEnds.{behind_answer, behind_dressing, behind_offer, with_draft};
-ghost use Rattle.jilqamur_ends.specs.Remotes.{IsPrinted, candidate_of, part_of, remote_told};
-ghost use Rattle.jilqamur_ends.specs.Wishes.{HasWish};
-ghost use Rattle.rtp_media_sections.specs.Answered.{flow};
+ghost use Rattle.std.specs.Prelude.{◌≡◌, ◌≢◌, IfErr, IfOk, OnErr};
+ghost use Rattle.std.specs.String.{string_bytes};
+ghost use Rattle.jilqamur.specs.Codes.{ok};
+ghost use Rattle.jilqamur.specs.Handles.{AtObject};
+ghost use Rattle.jilqamur.specs.Answers.{AtEnd, WithText};
+ghost use Rattle.jilqamur.specs.Browsers.{AcceptsBrowser, AnswersBrowser, AnswersOffered, AnswersTaken};
+ghost use Rattle.jilqamur.specs.Browsers.{IsHanded, IsUnanswered, IsUntaken, browser_code};
+ghost use Rattle.jilqamur.specs.HeldEnds.{behind_answer, behind_offer};
+ghost use Rattle.rtp_media_browsers.specs.Calls.{RefusesOffer};
+ghost use Rattle.rtp_media_browsers.specs.Tidied.{tidied};
+ghost use Rattle.jilqamur.specs.Held.{end_in};
 
-use jilqamur_ends::{EndHandle, WireRemote};
+use crate::codes;
+use crate::copying::text_in;
+use crate::exchanging::exchange_code;
+use crate::handle::EndHandle;
+use crate::object::Object;
+use rtp_media_browsers::{BrowserError, Plan, Wish, answer_for_end, for_end, sections_for};
+use rtp_media_ends::End;
+use rtp_media_sections::{SectionSpec, are_sound};
 use std::alloc::Global;
 
-/// A wish more for the sections of the next browser's offer.
-#[unsafe(no_mangle)]
-pub extern "C" fn jilqamur_end_wish(
-    alloc: Global,
-    end: &mut EndHandle,
-    is_accepted: bool,
-    sends: bool,
-    receives: bool,
-    ssrcs: &[u32],
-) -> u32
-    ensures outcome { AtObject end.old.place.object end.new.place.object result
-        (λ p after. result ≢ memory → result ≡ ok) }
-    ensures added { AtObject end.old.place.object end.new.place.object result
-        (λ p after. result ≡ ok → HasWish p.draft is_accepted (flow sends receives) ssrcs.now after.draft) }
-    ensures rest { AtObject end.old.place.object end.new.place.object result
-        (λ p after. after ≡ with_draft p after.draft) }
-    ensures unchanged { result ≢ ok → end.new.place.object ≡ end.old.place.object }
+/// The number of a refusal of a browser's text, or of one for a browser.
+pub(crate) fn browser_code(error: &BrowserError) -> u32
+    ensures { result ≡ browser_code error.now }
 {
-    jilqamur_ends::add_wish(alloc, end, is_accepted, sends, receives, ssrcs)
+    match error {
+        BrowserError::Unreadable => codes::TEXT_UNREADABLE,
+        BrowserError::RestUnread => codes::REST_UNREAD,
+        BrowserError::MidNotKept(_) => codes::MID_NOT_KEPT,
+        BrowserError::MidTwice => codes::MID_TWICE,
+        BrowserError::NotCorresponding => codes::NOT_CORRESPONDING,
+        BrowserError::Rejected(_) => codes::SECTION_REJECTED,
+        BrowserError::SeveralBundles => codes::SEVERAL_BUNDLES,
+        BrowserError::OutsideBundle(_) => codes::OUTSIDE_BUNDLE,
+        BrowserError::NothingLeft => codes::NOTHING_LEFT,
+        BrowserError::KeysAlone(_) => codes::KEYS_ALONE,
+        BrowserError::UfragNotFit => codes::UFRAG_NOT_FIT,
+        BrowserError::PasswordNotFit => codes::PASSWORD_NOT_FIT,
+        BrowserError::SetupNotFit => codes::SETUP_NOT_FIT,
+        BrowserError::NotWritable => codes::NOT_WRITABLE,
+        BrowserError::Memory => codes::MEMORY,
+    }
 }
 
-/// The end's answer to a browser's offer, by the wishes.
+/// What the end is handed of a browser's offer, and the sections of its answer.
+///
+/// # Errors
+///
+/// Why the offer isn't passed on.
+#[tactic(auto, using(rtp_media_browsers::proofs::Refused::want_of_memory))]
+fn handed(
+    alloc: Global,
+    plan: &mut Plan,
+    offer: &str,
+    wishes: &[Wish],
+) -> Result<(String, Vec<SectionSpec>), BrowserError>
+    ensures handed { IfOk result
+        (λ r. IsHanded plan.old wishes.now offer.now plan.new (string_bytes r.0) r.1.items) }
+    ensures refused { IfErr result (λ e. RefusesOffer (tidied offer.now) plan.old wishes.now e) }
+{
+    let text = for_end(alloc, plan, offer, wishes)?;
+    let sections = sections_for(alloc, plan, wishes)?;
+    Ok((text, sections))
+}
+
+/// The text of the end's answer to a browser's offer.
+///
+/// # Errors
+///
+/// The number of the refusal.
+fn answered(
+    alloc: Global,
+    end: &mut End,
+    plan: &mut Plan,
+    offer: &str,
+    wishes: &[Wish],
+) -> Result<String, u32>
+    ensures answered { IfOk result
+        (λ text. AnswersBrowser end.old plan.old wishes.now offer.now (string_bytes text) plan.new end.new) }
+    ensures refused { IfErr result (λ code. IsUnanswered end.old plan.old wishes.now offer.now code) }
+    ensures unchanged { OnErr result (end.new ≡ end.old) }
+{
+    let (text, sections) = match handed(alloc, plan, offer, wishes) {
+        Ok(handed) => handed,
+        Err(error) => return Err(browser_code(&error)),
+    };
+    if !are_sound(sections.as_slice()) {
+        return Err(codes::OUT_OF_RANGE);
+    }
+    match end.answer(text.as_str(), sections) {
+        Ok(answer) => Ok(answer),
+        Err(error) => Err(exchange_code(&error)),
+    }
+}
+
+/// Answers a browser's offer by the wishes, which are used up, and returns `OK`: the text of the
+/// end's answer is left to be fetched, and the plan is updated. `NOT_TEXT` for bytes that aren't
+/// UTF-8, `NOT_MADE` without an end; otherwise the first that applies of `TEXT_UNREADABLE`,
+/// `REST_UNREAD`, `MID_NOT_KEPT`, `MID_TWICE`, `SEVERAL_BUNDLES`, `OUTSIDE_BUNDLE`, `NOTHING_LEFT`
+/// and `KEYS_ALONE`; otherwise `OUT_OF_RANGE` if a wish's RTX pairs don't fit its SSRCs; otherwise
+/// what the end refuses, as in `answer`; or `MEMORY`. Then end, text and plan don't change.
+#[tactic(auto, using(crate::proofs::Bare::want_of_text))]
 #[unsafe(no_mangle)]
 pub extern "C" fn jilqamur_end_answer_browser(
     alloc: Global,
     end: &mut EndHandle,
     offer: &[u8],
 ) -> u32
-    ensures answer { AtObject end.old.place.object end.new.place.object result
+    ensures answer { AtObject (end_in end.old) (end_in end.new) result
         (λ p after. WithText offer.now p.end after.end result
         (λ e now. AnswersOffered e p.plan p.draft.wishes offer.now result after.text after.plan now)) }
-    ensures kept { AtObject end.old.place.object end.new.place.object result
+    ensures kept { AtObject (end_in end.old) (end_in end.new) result
         (λ p after. result ≢ ok → (after.text ≡ p.text) × (after.plan ≡ p.plan)) }
-    ensures rest { AtObject end.old.place.object end.new.place.object result
+    ensures rest { AtObject (end_in end.old) (end_in end.new) result
         (λ p after. after ≡ behind_offer p after.end after.plan after.text) }
 {
-    jilqamur_ends::answer_browser(alloc, end, offer)
+    if !end.slot.is_open() {
+        return codes::CLOSED;
+    }
+    let Object::End(held) = end.slot.place.held() else {
+        unreachable!();
+    };
+    let wishes = held.draft.take_wishes(alloc);
+    let Some(offer) = text_in(offer) else {
+        return codes::NOT_TEXT;
+    };
+    let Some(end) = &mut held.end else {
+        return codes::NOT_MADE;
+    };
+    let Ok(mut plan) = held.plan.clone(alloc) else {
+        return codes::MEMORY;
+    };
+    match answered(alloc, end, &mut plan, offer, wishes.as_slice()) {
+        Ok(text) => {
+            held.plan = plan;
+            held.text = text.into_bytes();
+            codes::OK
+        }
+        Err(code) => code,
+    }
 }
 
-/// Takes a browser's answer to the pending offer.
+/// Hands a browser's answer to the end.
+///
+/// # Errors
+///
+/// The number of the refusal.
+fn accepted(alloc: Global, end: &mut End, plan: &mut Plan, answer: &str) -> Result<(), u32>
+    ensures accepted { IfOk result (λ _. AcceptsBrowser end.old plan.old answer.now plan.new end.new) }
+    ensures refused { IfErr result (λ code. IsUntaken end.old plan.old answer.now code) }
+    ensures unchanged { OnErr result (end.new ≡ end.old) }
+{
+    let text = match answer_for_end(alloc, plan, answer) {
+        Ok(text) => text,
+        Err(error) => return Err(browser_code(&error)),
+    };
+    match end.accept(text.as_str()) {
+        Ok(()) => Ok(()),
+        Err(error) => Err(exchange_code(&error)),
+    }
+}
+
+/// Takes a browser's answer to the pending offer, and returns `OK`: the browser is remembered. `NOT_TEXT` for bytes
+/// that aren't UTF-8, `NOT_MADE` without an end; else the first that holds of `TEXT_UNREADABLE`, `REST_UNREAD`,
+/// `MID_NOT_KEPT`, `MID_TWICE`, `NOT_CORRESPONDING`, `SECTION_REJECTED`, `SEVERAL_BUNDLES`, `OUTSIDE_BUNDLE`,
+/// `NOTHING_LEFT` and `KEYS_ALONE`; else what the end refuses, as `accept`; or `MEMORY`. All then stays.
+#[tactic(auto, using(crate::proofs::Bare::want_of_text))]
 #[unsafe(no_mangle)]
 pub extern "C" fn jilqamur_end_accept_browser(
     alloc: Global,
     end: &mut EndHandle,
     answer: &[u8],
 ) -> u32
-    ensures answer { AtObject end.old.place.object end.new.place.object result
+    ensures answer { AtObject (end_in end.old) (end_in end.new) result
         (λ p after. WithText answer.now p.end after.end result
         (λ e now. AnswersTaken e p.plan answer.now result after.plan now)) }
-    ensures kept { AtObject end.old.place.object end.new.place.object result
+    ensures kept { AtObject (end_in end.old) (end_in end.new) result
         (λ p after. result ≢ ok → after.plan ≡ p.plan) }
-    ensures rest { AtObject end.old.place.object end.new.place.object result
+    ensures rest { AtObject (end_in end.old) (end_in end.new) result
         (λ p after. after ≡ behind_answer p after.end after.plan) }
 {
-    jilqamur_ends::accept_browser(alloc, end, answer)
-}
-
-/// A text of the end, made for a browser.
-#[unsafe(no_mangle)]
-pub extern "C" fn jilqamur_end_for_browser(
-    alloc: Global,
-    end: &mut EndHandle,
-    text: &[u8],
-    setup: u8,
-    is_lite: bool,
-    ufrag: &[u8],
-    password: &[u8],
-    hash: &[u8],
-    digest: &[u8],
-) -> u32
-    ensures answer { AtObject end.old.place.object end.new.place.object result
-        (λ p after. WithTexts (are_texts text.now ufrag.now password.now hash.now) result
-        (AtSetup (setup_of setup) result (λ s. Dresses text.now p.plan
-        (transport_of s is_lite ufrag.now password.now hash.now digest.now) result after.text after.plan))) }
-    ensures kept { AtObject end.old.place.object end.new.place.object result
-        (λ p after. result ≢ ok → (after.text ≡ p.text) × (after.plan ≡ p.plan)) }
-    ensures rest { AtObject end.old.place.object end.new.place.object result
-        (λ p after. after ≡ behind_dressing p after.plan after.text) }
-{
-    jilqamur_ends::for_browser(
-        alloc, end, text, setup, is_lite, ufrag, password, hash, digest,
-    )
-}
-
-/// What a browser's texts tell of its transport.
-#[unsafe(no_mangle)]
-pub extern "C" fn jilqamur_end_remote(end: &mut EndHandle, told: &mut WireRemote) -> u32
-    ensures told { AtObject end.old.place.object end.new.place.object result
-        (λ p after. (result ≡ ok) × (told.new ≡ remote_told p.plan)) }
-    ensures closed { result ≡ closed → told.new ≡ told.old }
-    ensures unchanged { end.new.place.object ≡ end.old.place.object }
-{
-    end.remote(told)
-}
-
-/// The text of a part of that.
-#[unsafe(no_mangle)]
-pub extern "C" fn jilqamur_end_remote_text(
-    alloc: Global,
-    end: &mut EndHandle,
-    part: u8,
-    buffer: &mut [u8],
-    needed: &mut usize,
-) -> u32
-    ensures text { AtObject end.old.place.object end.new.place.object result
-        (λ p after. IsPrinted (part_of p.plan.remote part) buffer.old result needed.old needed.new buffer.new) }
-    ensures closed { result ≡ closed → (buffer.new ≡ buffer.old) × (needed.new ≡ needed.old) }
-    ensures nothing { result ≡ nothing → needed.new ≡ needed.old }
-    ensures unchanged { end.new.place.object ≡ end.old.place.object }
-{
-    end.remote_text(alloc, part, buffer, needed)
-}
-
-/// The text of a candidate of the browser.
-#[unsafe(no_mangle)]
-pub extern "C" fn jilqamur_end_remote_candidate(
-    alloc: Global,
-    end: &mut EndHandle,
-    index: usize,
-    buffer: &mut [u8],
-    needed: &mut usize,
-) -> u32
-    ensures text { AtObject end.old.place.object end.new.place.object result
-        (λ p after. IsPrinted (candidate_of p.plan.remote index) buffer.old result needed.old needed.new buffer.new) }
-    ensures closed { result ≡ closed → (buffer.new ≡ buffer.old) × (needed.new ≡ needed.old) }
-    ensures nothing { result ≡ nothing → needed.new ≡ needed.old }
-    ensures unchanged { end.new.place.object ≡ end.old.place.object }
-{
-    end.remote_candidate(alloc, index, buffer, needed)
+    if !end.slot.is_open() {
+        return codes::CLOSED;
+    }
+    let Object::End(held) = end.slot.place.held() else {
+        unreachable!();
+    };
+    let Some(answer) = text_in(answer) else {
+        return codes::NOT_TEXT;
+    };
+    let Some(end) = &mut held.end else {
+        return codes::NOT_MADE;
+    };
+    let Ok(mut plan) = held.plan.clone(alloc) else {
+        return codes::MEMORY;
+    };
+    match accepted(alloc, end, &mut plan, answer) {
+        Ok(()) => {
+            held.plan = plan;
+            codes::OK
+        }
+        Err(code) => code,
+    }
 }

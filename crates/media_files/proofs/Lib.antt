@@ -1,3 +1,4 @@
+pub mod EbmlLemmas
 pub mod IvfLemmas
 pub mod LawLemmas
 pub mod OpusLemmas

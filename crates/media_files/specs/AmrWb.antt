@@ -2,7 +2,7 @@
 use Rattle.std.specs.Prelude.{ℕ, List, [], ◌∷◌, ◌++◌, codes, Option, None, Some}
 use Rattle.std.specs.List.{flat_map}
 
--- A frame that was lost: NO_DATA, frame type 15, of good quality, with no speech (RFC 4867 5.3).
+-- A lost frame is stored as NO_DATA: frame type 15, good quality, no speech (RFC 4867 5.3).
 abbrev pub stored : Option (List ℕ) → List ℕ
 stored None = 0x7c ∷ []
 stored (Some frames) = frames
@@ -11,6 +11,6 @@ stored (Some frames) = frames
 unfoldable pub magic : List ℕ
 magic = codes "#!AMR-WB\n"
 
--- The file of frames, each a header and its speech, one behind the other.
+-- The file: its magic number, then each frame with its header.
 abbrev pub amr_wb_file : List (Option (List ℕ)) → List ℕ
 amr_wb_file frames = magic ++ flat_map stored frames

@@ -1,8 +1,12 @@
 pub mod AmrWb
+pub mod Ebml
 pub mod Ivf
+pub mod Mkv
+pub mod MkvViews
 pub mod Ogg
 pub mod OggViews
 pub mod Opus
 pub mod OpusViews
+pub mod Superframe
 pub mod Units
 pub mod Wav

@@ -1,4 +1,4 @@
--- What a place of the program shows.
+-- The model of a program's value.
 use Rattle.media_files.specs.Ogg.{Place}
 use Rattle.media_files.specs.declared.ogg.PagePlace.{PagePlace}
 

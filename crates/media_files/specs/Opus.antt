@@ -36,7 +36,7 @@ at_most_120_ms samples = if nat_le samples 5760 then samples else 0
 unfoldable pub opus_duration : List ℕ → ℕ
 opus_duration packet = at_most_120_ms (opus_frames packet * frame_samples (slice_index packet 0 / 8))
 
--- A packet without sound that is as long as another: as many frames, each without a byte.
+-- A packet of silence as long as another: the same frames, each empty.
 unfoldable pub silence_of : List ℕ → List ℕ
 silence_of packet =
     if length packet == 0 then []
@@ -45,7 +45,7 @@ silence_of packet =
     then slice_index packet 0 ∷ (slice_index packet 1 % 64 ∷ [])
     else slice_index packet 0 ∷ []
 
--- A packet that came whole.
+-- A packet with a valid duration.
 abbrev pub is_sound : List ℕ → Bool
 is_sound packet = not (opus_duration packet == 0)
 
@@ -66,23 +66,23 @@ abbrev pub kept_of : Option (List ℕ) → List ℕ → List ℕ
 kept_of (Some packet) previous = packet
 kept_of None previous = previous
 
--- The packets from the first that came whole.
+-- The packets from the first valid one on.
 abbrev pub from_sound : List (Option (List ℕ)) → List (Option (List ℕ))
 from_sound [] = []
 from_sound (None ∷ packets) = from_sound packets
 from_sound (Some p ∷ packets) = if is_sound p then Some p ∷ packets else from_sound packets
 
--- A stream: its channels, what a player skips of its front, its serial number.
+-- A stream: channel count, pre-skip, serial number.
 pub record Stream : Type 0 where
   pub channels : ℕ
   pub pre_skip : ℕ
   pub serial : ℕ
 
--- The header of version 1: channels, what is skipped, the rate of the input, no gain, mapping 0 (RFC 7845 5.1).
+-- The OpusHead header, version 1: channels, pre-skip, input rate, gain 0, mapping family 0 (RFC 7845 5.1).
 unfoldable pub opus_head : Stream → List ℕ
 opus_head s = codes "OpusHead" ++ (1 ∷ (s.channels ∷ (u16_le s.pre_skip ++ (u32_le 48000 ++ (u16_le 0 ++ 0 ∷ [])))))
 
--- The comments: who wrote the file, and no other (RFC 7845 5.2).
+-- The OpusTags header: the vendor string, no user comments (RFC 7845 5.2).
 unfoldable pub opus_tags : List ℕ
 opus_tags = codes "OpusTags" ++ (u32_le 11 ++ (codes "media_files" ++ u32_le 0))
 
@@ -142,6 +142,6 @@ abbrev pub IsLong : Option (List ℕ) → Type 0
 IsLong None = ⊥
 IsLong (Some packet) = longest_packet < length packet
 
--- More packets than pages can count, or one behind the first whole one that no page has room for.
+-- More packets than page numbers allow, or one, from the first valid packet on, that is too long for a page.
 abbrev pub IsTooMuch : List (Option (List ℕ)) → Type 0
 IsTooMuch packets = (4294967293 < length packets) ⊎ Any IsLong (from_sound packets)

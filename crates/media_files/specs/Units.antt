@@ -1,4 +1,4 @@
--- Units of video one behind the other.
+-- Video units, concatenated.
 use Rattle.std.specs.Prelude.{ℕ, List, ◌∷◌}
 use Rattle.std.specs.List.{flat_map}
 use Rattle.media_files.specs.declared.units.TimedUnit.{TimedUnit}

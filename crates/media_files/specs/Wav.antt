@@ -5,7 +5,7 @@ use Rattle.media_files_captures.specs.Numbers.{u16_le, u32_le}
 use Rattle.media_files.specs.declared.wav.WavCodec.{WavCodec}
 use Rattle.media_files.specs.declared.wav.WavCodec.TheVariants.{Pcmu, Pcma, G722}
 
--- The format's tag, its samples a second, the bits of a sample, how many samples a byte has.
+-- The format tag, the sample rate, the bits per sample, the samples per byte.
 abbrev pub tag_of : WavCodec → ℕ
 tag_of Pcmu = 7
 tag_of Pcma = 6
@@ -26,7 +26,7 @@ samples_of Pcmu n = n
 samples_of Pcma n = n
 samples_of G722 n = 2 * n
 
--- A chunk of odd length has a byte behind it.
+-- A chunk of odd length is padded with one byte.
 abbrev pub padding : ℕ → List ℕ
 padding n = if n % 2 == 0 then [] else 0 ∷ []
 
@@ -41,7 +41,7 @@ format_rates c = u32_le (rate_of c) ++ (u32_le 8000 ++ (u16_le 1 ++ (u16_le (bit
 unfoldable pub fact_chunk : WavCodec → ℕ → List ℕ
 fact_chunk c n = codes "fact" ++ (u32_le 4 ++ u32_le (samples_of c n))
 
--- What the file begins with: everything behind the first eight bytes is counted, all chunks and the form's name.
+-- The RIFF header: its length counts everything after the first eight bytes.
 unfoldable pub riff_front : ℕ → List ℕ
 riff_front n = codes "RIFF" ++ (u32_le (50 + n + n % 2) ++ codes "WAVE")
 

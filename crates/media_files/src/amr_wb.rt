@@ -19,8 +19,8 @@ fn push_stored(frames: Option<&[u8]>, out: &mut Vec<u8>) -> Result<(), AllocErro
     }
 }
 
-/// The file of frames of AMR-WB in one channel, in their order (RFC 4867 5.1). Each item has frames as a file stores
-/// them, header and speech in whole bytes (5.3); None is a frame of 20 ms that was lost.
+/// The AMR-WB file (one channel) of these frames, in order (RFC 4867 5.1). Each item holds frames
+/// as a file stores them: header and speech in whole bytes (5.3); None is a lost 20 ms frame.
 pub fn amr_wb_file(alloc: Global, frames: &[Option<&[u8]>]) -> Result<Vec<u8>, AllocError>
     ensures { IfOk result (λ v. v.items ≡ amr_wb_file (map item frames.now)) }
 {

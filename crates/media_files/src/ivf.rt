@@ -1,9 +1,10 @@
 //! IVF files of VP8, VP9 and AV1.
 
-ghost use Rattle.std.specs.Prelude.{◌≡◌, ◌≢◌, ◌+◌, ◌-◌, ◌^◌, ◌++◌, ◌<◌, ◌≤◌, IfErr, IfOk, OnOk, length, map};
+ghost use Rattle.std.specs.Prelude.{◌≡◌, ◌≢◌, ◌+◌, ◌-◌, ◌^◌, ◌++◌, ◌<◌, ◌≤◌, IfErr, IfOk, OnOk, fold, length, map};
 ghost use Rattle.media_files.specs.Ivf.{AllFit, first_time, first_vp8_size, fourcc, framed, IsTooMuch, ivf_file};
 ghost use Rattle.media_files.specs.Ivf.{ivf_frame, ivf_header};
-ghost use Rattle.media_files.specs.Ivf.{clock, nearest_time, picture_size, size_of, signature, sized, vp8_size};
+ghost use Rattle.media_files.specs.Ivf.{clock, nearest_time, picture_size, size_of, signature, sized, span_of};
+ghost use Rattle.media_files.specs.Ivf.{ticks_of, time_after, vp8_size};
 ghost use Rattle.media_files.specs.Units.{timed};
 
 use crate::errors::RecordingError;
@@ -83,14 +84,14 @@ fn push_signature(codec: IvfCodec, out: &mut Vec<u8>) -> Result<(), AllocError>
     out.extend_from_slice(&fourcc(codec))
 }
 
-/// Writes what a header has behind the height: the clock, the count and four bytes that are not used.
+/// Writes what a header has after the height: the clock, the length in ticks and four bytes that are not used.
 #[tactic(auto, unfolding(crate::specs::Ivf::clock))]
-fn push_clock(rate: u32, count: u32, out: &mut Vec<u8>) -> Result<(), AllocError>
-    ensures { OnOk result (out.new.items ≡ out.old.items ++ clock rate count) }
+fn push_clock(rate: u32, ticks: u32, out: &mut Vec<u8>) -> Result<(), AllocError>
+    ensures { OnOk result (out.new.items ≡ out.old.items ++ clock rate ticks) }
 {
     push_u32(out, rate)?;
     push_u32(out, 1)?;
-    push_u32(out, count)?;
+    push_u32(out, ticks)?;
     push_u32(out, 0)
 }
 
@@ -100,15 +101,15 @@ fn push_header(
     codec: IvfCodec,
     size: (u16, u16),
     rate: u32,
-    count: u32,
+    ticks: u32,
     out: &mut Vec<u8>,
 ) -> Result<(), AllocError>
-    ensures { OnOk result (out.new.items ≡ out.old.items ++ ivf_header codec (size_of size.0 size.1) rate count) }
+    ensures { OnOk result (out.new.items ≡ out.old.items ++ ivf_header codec (size_of size.0 size.1) rate ticks) }
 {
     push_signature(codec, out)?;
     push_u16(out, size.0)?;
     push_u16(out, size.1)?;
-    push_clock(rate, count, out)
+    push_clock(rate, ticks, out)
 }
 
 /// How many bytes a unit has in a file.
@@ -155,7 +156,7 @@ fn push_frame(
     Ok(())
 }
 
-/// The time nearest to the one before it that has these low 32 bits, and not below 0.
+/// The time nearest to the previous one with these low 32 bits, but never below 0.
 #[tactic(auto, unfolding(crate::specs::Ivf::nearest_time))]
 fn nearest_time(previous: u64, low: u32) -> u64
     requires { previous + 2147483648 < 2 ^ 64 }
@@ -170,7 +171,7 @@ fn nearest_time(previous: u64, low: u32) -> u64
     }
 }
 
-/// The time of the first frame, on a clock that has room below it.
+/// The time of the first frame, on a clock that has room for earlier ones.
 fn first_time(frames: &[TimedUnit<'_>]) -> u64
     ensures value { result ≡ first_time (map timed frames.now) }
     ensures low { result < 8589934592 }
@@ -181,9 +182,35 @@ fn first_time(frames: &[TimedUnit<'_>]) -> u64
     }
 }
 
+/// The time of the last frame, on the clock of the first.
+fn last_time(first: u64, frames: &[TimedUnit<'_>]) -> u64
+    requires start { first < 8589934592 }
+    requires few { length frames.now < 4294967296 }
+    ensures { result ≡ fold time_after first (map timed frames.now) }
+{
+    let mut previous = first;
+    for frame in frames {
+        previous = nearest_time(previous, frame.time);
+    }
+    previous
+}
+
+/// How many ticks so many frames last, of which the last one begins so many after the first.
+#[tactic(auto, unfolding(crate::specs::Ivf::ticks_of))]
+fn ticks_of(count: u32, span: u64) -> u32
+    ensures { result ≡ ticks_of count span }
+{
+    if count < 2 {
+        return 0;
+    }
+    let ticks = span as u128 + (span / (count - 1) as u64) as u128;
+    ticks.min(4294967295) as u32
+}
+
 /// The IVF file of these frames, in their order, at so many ticks a second (90,000 for video over RTP). Times are
 /// unwrapped and counted from the first frame, and are 0 for what lies before it. The header has the width and height
-/// of the first key frame of VP8, else 0.
+/// of the first key frame of VP8, else 0, and how many ticks the frames last, the last one as long as the others are
+/// on average.
 ///
 /// # Errors
 /// A frame has 2^32 bytes or more, there are 2^32 frames or more, or there is no memory for the file.
@@ -202,10 +229,11 @@ pub fn ivf_file(
     if frames.len() > u32::MAX as usize {
         return Err(RecordingError::TooLong);
     }
-    let count = frames.len() as u32;
-    let mut out = Vec::new(alloc);
-    push_header(codec, picture_size(codec, frames), rate, count, &mut out)?;
     let first = first_time(frames);
+    let span = last_time(first, frames).saturating_sub(first);
+    let ticks = ticks_of(frames.len() as u32, span);
+    let mut out = Vec::new(alloc);
+    push_header(codec, picture_size(codec, frames), rate, ticks, &mut out)?;
     let mut previous = first;
     for frame in frames {
         let time = nearest_time(previous, frame.time);

@@ -4,8 +4,8 @@ ghost use Rattle.std.specs.Prelude.{◌≡◌, ◌+◌, ◌%◌, ◌<◌, ◌≤
 ghost use Rattle.media_files.specs.Ivf.{nearest_time};
 ghost use Rattle.media_files.specs.Opus.{opus_duration, silence_of};
 
-/// The time of a frame has the low 32 bits that its packets say, and is at most half their range from the time before
-/// it (RFC 3550 5.1).
+/// A frame's time has the low 32 bits of its packets' timestamp, and is at most half their range
+/// away from the time before it (RFC 3550 5.1).
 pub fn time_laws()
     ensures low_bits { (previous low : ℕ) → 2147483648 ≤ previous → low < 4294967296
         → nearest_time previous low % 4294967296 ≡ low }
@@ -13,7 +13,8 @@ pub fn time_laws()
     ensures behind { (previous low : ℕ) → previous ≤ nearest_time previous low + 2147483648 }
 {}
 
-/// Silence in place of a packet is as long as the packet, so that what is lost moves nothing that follows.
+/// The silence that replaces a lost packet is as long as the packet, so later packets keep their
+/// time.
 pub fn opus_laws()
     ensures { (packet : List ℕ) → 0 < opus_duration packet
         → opus_duration (silence_of packet) ≡ opus_duration packet }

@@ -39,7 +39,7 @@ fn crc_bit(remainder: u32) -> u32
     }
 }
 
-/// The remainder four bits further.
+/// The CRC register after four more bits.
 #[tactic(auto, unfolding(crate::specs::Ogg::crc_half))]
 fn crc_half(remainder: u32) -> u32
     ensures { result ≡ crc_half remainder }

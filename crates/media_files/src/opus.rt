@@ -52,7 +52,7 @@ fn frame_samples(config: u8) -> usize
     }
 }
 
-/// How many frames a packet has; 0 where it doesn't say it (RFC 6716 3.2).
+/// How many frames a packet has; 0 if it doesn't say (RFC 6716 3.2).
 #[tactic(auto, unfolding(crate::specs::Opus::opus_frames))]
 fn opus_frames(packet: &[u8]) -> usize
     ensures value { result ≡ opus_frames packet.now }
@@ -108,7 +108,7 @@ fn silence_of(packet: &[u8]) -> ([u8; 2], usize)
     ([first, 0], 1)
 }
 
-/// A packet that came whole.
+/// A packet with a valid duration.
 #[tactic(auto, unfolding(crate::specs::Opus::sound))]
 fn sound<'a>(packet: Option<&'a [u8]>) -> Option<&'a [u8]>
     ensures { item result ≡ sound (item packet.entry) }
@@ -122,7 +122,7 @@ fn sound<'a>(packet: Option<&'a [u8]>) -> Option<&'a [u8]>
     Some(bytes)
 }
 
-/// How many packets stand in front of the first that came whole.
+/// How many packets precede the first valid one.
 fn lost_in_front(packets: &[Option<&[u8]>]) -> usize
     ensures value { map item (drop result packets.now) ≡ from_sound (map item packets.now) }
     ensures within { result ≤ length packets.now }

@@ -1,4 +1,4 @@
-//! Units of video one behind the other.
+//! Video units, concatenated.
 
 ghost use Rattle.std.specs.Prelude.{◌≡◌, IfOk, map};
 ghost use Rattle.media_files.specs.Units.{annex_b_of, obu_stream_of};

@@ -130,7 +130,7 @@ fn push_wav_front(codec: WavCodec, len: u32, out: &mut Vec<u8>) -> Result<(), Al
     push_data(len, out)
 }
 
-/// Writes the byte behind an odd number of bytes.
+/// Writes the padding byte after an odd number of bytes.
 fn push_padding(len: usize, out: &mut Vec<u8>) -> Result<(), AllocError>
     ensures { OnOk result (out.new.items ≡ out.old.items ++ padding len) }
 {

@@ -22,7 +22,7 @@ seen p = record {
   bytes = p.bytes.now;
 }
 
--- A packet and what stands behind it.
+-- A packet and the bytes after it.
 abbrev pub read : Option (CapturedPacket × Bor (List ℕ)) → Option (Packet × List ℕ)
 read None = None
 read (Some p) = Some (seen p.0, p.1.now)

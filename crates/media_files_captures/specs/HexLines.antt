@@ -27,7 +27,7 @@ said_shown s = option_map (λ d. option_map datagram_shown d) s
 unfoldable pub hex_bytes : List ℕ → Option (List ℕ)
 hex_bytes text = result_ok (decode_of text)
 
--- The number of decimal digits; None where a byte is none, or the number has no room in 64 bits.
+-- The value of decimal digits; None if a byte isn't a digit, or the number doesn't fit in 64 bits.
 abbrev pub is_digit : ℕ → Bool
 is_digit c = nat_le 48 c && nat_le c 57
 
@@ -43,7 +43,7 @@ digits_behind (Some n) (c ∷ text) = digits_behind (with_digit n c) text
 unfoldable pub decimal : List ℕ → Option ℕ
 decimal text = if length text == 0 then None else digits_behind (Some 0) text
 
--- The datagram in a line: milliseconds and a blank may stand in front of the bytes.
+-- The datagram of a line: its bytes, optionally preceded by milliseconds and a blank.
 abbrev pub timed : Option ℕ → Option (List ℕ) → Option Datagram
 timed (Some n) (Some bytes) = Some (datagram_of (Some n) bytes)
 timed (Some n) None = None
@@ -56,19 +56,19 @@ datagram_at (Some n) line = timed (decimal (take n line)) (hex_bytes (drop (n + 
 unfoldable pub datagram_in : List ℕ → Option Datagram
 datagram_in line = datagram_at (position (λ b. b == 32) line) line
 
--- An empty line and one that begins with '#' say nothing; any other has a datagram, or is none.
+-- An empty line and a line starting with '#' are skipped; any other line holds a datagram, or is bad.
 abbrev pub is_silent : List ℕ → Bool
 is_silent line = (length line == 0) || (slice_index line 0 == 35)
 
 unfoldable pub said : List ℕ → Option (Option Datagram)
 said line = if is_silent line then Some None else option_map (λ d. Some d) (datagram_in line)
 
--- A carriage return may stand at the end of a line.
+-- A line may end in a carriage return.
 unfoldable pub trimmed : List ℕ → List ℕ
 trimmed line =
     if nat_lt 0 (length line) && (slice_index line (length line - 1) == 13) then take (length line - 1) line else line
 
--- The first line of a text goes to its line feed, or to the end.
+-- The first line of a text ends at its line feed, or at the text's end.
 abbrev pub line_length : List ℕ → ℕ
 line_length text = prefix_len (λ b. not (b == 10)) text
 
@@ -85,12 +85,12 @@ abbrev pub line_shown : Option (Option HexDatagram × Bor (List ℕ)) → Option
 line_shown None = None
 line_shown (Some l) = Some (option_map datagram_shown l.0, l.1.now)
 
--- A text says these datagrams: each of its lines is read.
+-- The text holds these datagrams: each of its lines can be read.
 abbrev pub IsHexText : List ℕ → List Datagram → Type 0
 IsHexText text datagrams = (lines : List (Option Datagram)) × HoldsAll hex_line text lines []
     × (datagrams ≡ flat_map option_to_list lines)
 
--- The line of this number is the first that is neither silent nor a datagram.
+-- The line with this number is the first that is neither skipped nor a datagram.
 abbrev pub IsBadAt : List ℕ → ℕ → Type 0
 IsBadAt text number = (lines : List (Option Datagram)) × (rest : List ℕ) × HoldsAll hex_line text lines rest
     × (0 < length rest) × (number ≡ length lines + 1)

@@ -1,14 +1,14 @@
--- Numbers of several bytes at a place.
+-- Multi-byte numbers at an offset.
 use Rattle.std.specs.Prelude.{ℕ, List, drop}
 use Rattle.std.specs.Int.{w16, w32, w64, from_be_bytes, from_le_bytes, to_le_bytes}
 use Rattle.media_files_captures.specs.declared.numbers.ByteOrder.{ByteOrder}
 use Rattle.media_files_captures.specs.declared.numbers.ByteOrder.TheVariants.{Big, Little}
 
--- A number of two bytes in the order of the network: the most significant byte first.
+-- A two-byte number in network byte order (big-endian).
 unfoldable pub u16_be : List ℕ → ℕ → ℕ
 u16_be bytes at = from_be_bytes w16 (drop at bytes)
 
--- A number of two bytes, of four and of eight in a byte order.
+-- Two-, four- and eight-byte numbers in a given byte order.
 unfoldable pub u16_at : ByteOrder → List ℕ → ℕ → ℕ
 u16_at Big bytes at = from_be_bytes w16 (drop at bytes)
 u16_at Little bytes at = from_le_bytes w16 (drop at bytes)
@@ -17,7 +17,7 @@ unfoldable pub u32_at : ByteOrder → List ℕ → ℕ → ℕ
 u32_at Big bytes at = from_be_bytes w32 (drop at bytes)
 u32_at Little bytes at = from_le_bytes w32 (drop at bytes)
 
--- Numbers of two bytes, of four and of eight, the least significant byte first.
+-- Two-, four- and eight-byte numbers, little-endian.
 unfoldable pub u16_le : ℕ → List ℕ
 u16_le n = to_le_bytes w16 n
 

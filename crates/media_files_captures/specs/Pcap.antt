@@ -10,7 +10,7 @@ use Rattle.media_files_captures.specs.declared.numbers.ByteOrder.TheVariants.{Bi
 use Rattle.media_files_captures.specs.declared.captures.Resolution.TheVariants.{Decimal}
 use Rattle.media_files_captures.specs.declared.pcap.PcapHeader.{PcapHeader}
 
--- The number of nanosecond captures and that of microsecond ones, as the first number of a file in its byte order.
+-- The magic numbers of nanosecond and microsecond captures, read as the file's first number.
 abbrev pub digits_of : ℕ → Option ℕ
 digits_of magic = if magic == 0xa1b2c3d4 then Some 6 else if magic == 0xa1b23c4d then Some 9 else None
 
@@ -19,15 +19,15 @@ format_of (Some digits) little = Some (Big, digits)
 format_of None (Some digits) = Some (Little, digits)
 format_of None None = None
 
--- The byte order of a file, and how many decimal digits the fractions of its seconds have.
+-- A file's byte order, and the number of decimal digits in its fractions of a second.
 unfoldable pub pcap_format : List ℕ → Option (ByteOrder × ℕ)
 pcap_format file = format_of (digits_of (u32_at Big file 0)) (digits_of (u32_at Little file 0))
 
--- The link type stands in the lower half of its number, above it what is said of a frame check sequence.
+-- The lower half of the number is the link type; the upper half is about the frame check sequence.
 abbrev pub header_of : List ℕ → ByteOrder × ℕ → PcapHeader
 header_of file f = record { order = f.0; digits = f.1; link = link_of (u32_at f.0 file 20 % 65536) }
 
--- The header of 24 bytes in front of a file.
+-- The 24-byte file header.
 unfoldable pub pcap_header : List ℕ → Option PcapHeader
 pcap_header file = if nat_lt (length file) 24 then None else option_map (header_of file) (pcap_format file)
 
@@ -45,14 +45,14 @@ packet_of h bytes = record {
   bytes = take (u32_at h.order bytes 8) (drop 16 bytes);
 }
 
--- The record in front of these bytes, where it is whole, and what stands behind it.
+-- The first record of these bytes, if it is complete, and the bytes after it.
 unfoldable pub pcap_record : PcapHeader → List ℕ → Option (Packet × List ℕ)
 pcap_record h bytes =
     if nat_lt (length bytes) 16 then None
     else if nat_lt (length bytes) (16 + u32_at h.order bytes 8) then None
     else Some (packet_of h bytes, drop (16 + u32_at h.order bytes 8) bytes)
 
--- A file of pcap holds these packets, and behind the last one these bytes, which are no whole record.
+-- A pcap file holds these packets; the bytes left after the last one are not a complete record.
 abbrev pub IsPcap : List ℕ → List Packet → List ℕ → Type 0
 IsPcap file packets unread =
     (h : PcapHeader) × (pcap_header file ≡ Some h) × HoldsAll (pcap_record h) (drop 24 file) packets unread

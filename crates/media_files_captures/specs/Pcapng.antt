@@ -12,7 +12,7 @@ use Rattle.media_files_captures.specs.declared.captures.Resolution.{Resolution}
 use Rattle.media_files_captures.specs.declared.captures.Resolution.TheVariants.{Decimal, Binary}
 use Rattle.media_files_captures.specs.declared.interfaces.Interface.{Interface}
 
--- A block: the byte order of its section, its type, and its body, without the two lengths round it.
+-- A block: its section's byte order, its type, and its body, without the length fields on either side.
 pub record Block : Type 0 where
   pub order : ByteOrder
   pub kind : ℕ
@@ -21,7 +21,7 @@ pub record Block : Type 0 where
 abbrev pub block_of : ByteOrder → ℕ → List ℕ → Block
 block_of order kind body = record { order = order; kind = kind; body = body }
 
--- Where reading is: the byte order of the section, and the bytes that are left.
+-- The reader's position: the section's byte order, and the bytes left.
 pub record Reader : Type 0 where
   pub order : ByteOrder
   pub rest : List ℕ
@@ -29,18 +29,19 @@ pub record Reader : Type 0 where
 abbrev pub reader : ByteOrder → List ℕ → Reader
 reader order rest = record { order = order; rest = rest }
 
--- The type of a section's header, which is the same in both byte orders.
+-- The block type of a section header, which is a palindrome: the same in both byte orders.
 abbrev pub section_kind : ℕ
 section_kind = 0x0a0d0d0a
 
--- A section's header says its byte order by a number behind its length.
+-- A section header gives its byte order by the byte-order magic after its length.
 abbrev pub order_of : ByteOrder → List ℕ → ByteOrder
 order_of before bytes =
     if not (u32_at Big bytes 0 == section_kind) then before
     else if u32_at Big bytes 8 == 0x1a2b3c4d then Big
     else Little
 
--- A block has its type, its length, its body, and its length again; the length is that of the whole, in fours.
+-- A block is its type, its length, its body, and its length again; the length covers the whole block and is a multiple
+-- of four.
 abbrev pub is_length : ℕ → List ℕ → Bool
 is_length len bytes = nat_le 12 len && (len % 4 == 0) && nat_le len (length bytes)
 
@@ -53,12 +54,12 @@ block_at order bytes =
     )
     else None
 
--- The block in front of what is left.
+-- The first block of the bytes left.
 unfoldable pub block : Reader → Option (Block × Reader)
 block r = if nat_lt (length r.rest) 12 then None else block_at (order_of r.order r.rest) r.rest
 
--- The options of a block: a code and a length of two bytes each, and the value, filled up to fours. This is the value
--- of the first that has a code and one byte; code 0 ends the options.
+-- The options of a block: a two-byte code, a two-byte length, and the value, padded to a multiple of four. This is the
+-- value of the first option with this code and length one; code 0 ends the options.
 abbrev pub padded : ℕ → ℕ
 padded n = (n + 3) / 4 * 4
 
@@ -74,12 +75,12 @@ option_byte (suc n) order code bytes =
     else if is_wanted order code bytes then Some (slice_index bytes 4)
     else option_byte n order code (drop (4 + padded (u16_at order bytes 2)) bytes)
 
--- The resolution of an interface: a power of ten, or with the high bit of two; microseconds where it says none (4.2).
+-- An interface's timestamp resolution: a power of ten, or of two if the high bit is set; microseconds by default (4.2).
 abbrev pub resolution_of : Option ℕ → Resolution
 resolution_of None = Decimal 6
 resolution_of (Some n) = if nat_lt n 128 then Decimal n else Binary (n - 128)
 
--- An interface: link type, two bytes that are not used, how much of a packet is kept, options (4.2).
+-- An interface: link type, two unused bytes, snap length, options (4.2).
 unfoldable pub interface_of : Block → Interface
 interface_of b = record {
   link = link_of (u16_at b.order b.body 0);
@@ -90,7 +91,7 @@ interface_of b = record {
 abbrev pub ticks_of : ℕ → ℕ → ℕ
 ticks_of high low = high * 4294967296 + low
 
--- A packet of an interface, with this time and length, kept so far, whose bytes stand from a place on.
+-- A packet of an interface with this timestamp, original length and captured length, whose bytes start at this offset.
 abbrev pub packet_at : Interface → ℕ → ℕ → ℕ → ℕ → List ℕ → Option Packet
 packet_at i ticks original_len kept place body =
     if nat_lt (length body) (place + kept) then None
@@ -102,16 +103,17 @@ packet_at i ticks original_len kept place body =
       bytes = take kept (drop place body);
     })
 
--- An enhanced packet: interface, time, how much is kept, how long it was (4.3).
+-- An enhanced packet block: interface, timestamp, captured length, original length (4.3).
 abbrev pub enhanced : ByteOrder → List ℕ → Interface → Option Packet
 enhanced order body i = packet_at i (ticks_of (u32_at order body 4) (u32_at order body 8)) (u32_at order body 16)
     (u32_at order body 12) 20 body
 
--- An old packet has its interface in two bytes, and behind it how many were dropped (A).
+-- The obsolete packet block has a two-byte interface id, followed by a drop count (A).
 abbrev pub old : ByteOrder → List ℕ → Interface → Option Packet
 old order body i = enhanced order body i
 
--- A simple packet is of the first interface, has no time, and is kept as far as that keeps (4.4).
+-- A simple packet block belongs to the first interface, has no timestamp, and is captured up to that interface's snap
+-- length (4.4).
 abbrev pub kept_of : ℕ → ℕ → ℕ
 kept_of snap_len len = if snap_len == 0 then len else min snap_len len
 
@@ -122,7 +124,7 @@ abbrev pub with_interface : Option Interface → (Interface → Option Packet) �
 with_interface None f = None
 with_interface (Some i) f = f i
 
--- The packet in a block, if it is of an interface of its section, and whole.
+-- The packet in a block, if the block is complete and its interface is known.
 unfoldable pub packet_in : List Interface → Block → Option Packet
 packet_in interfaces b =
     if (b.kind == 6) && nat_le 20 (length b.body)
@@ -133,7 +135,7 @@ packet_in interfaces b =
     then with_interface (slice_get interfaces (u16_at b.order b.body 0)) (old b.order b.body)
     else None
 
--- The interfaces that are known behind a block: a section begins with none.
+-- The interfaces known after a block: a section header resets them.
 unfoldable pub interfaces_after : List Interface → Block → List Interface
 interfaces_after interfaces b =
     if b.kind == section_kind then []
@@ -154,7 +156,7 @@ packets_of interfaces (b ∷ blocks) =
 abbrev pub is_pcapng : List ℕ → Bool
 is_pcapng file = nat_le 12 (length file) && (u32_at Big file 0 == section_kind)
 
--- A file of pcapng has these packets in its blocks, and behind the last block these bytes, which are no whole block.
+-- A pcapng file holds these packets; the bytes left after the last block are not a complete block.
 abbrev pub IsPcapng : List ℕ → List Packet → List ℕ → Type 0
 IsPcapng file packets unread = (blocks : List Block) × (last : ByteOrder)
     × HoldsAll block (reader Big file) blocks (reader last unread) × (packets ≡ packets_of [] blocks)

@@ -1,4 +1,4 @@
--- What blocks of the program show.
+-- The models of the program's blocks.
 use Rattle.std.specs.Prelude.{Option, None, Some, option_map}
 use Rattle.media_files_captures.specs.Captures.{Packet, seen}
 use Rattle.media_files_captures.specs.Pcapng.{Block, Reader}

@@ -8,7 +8,7 @@ use Rattle.media_files_captures.specs.Runs.{HoldsAll}
 use Rattle.media_files_captures.specs.declared.numbers.ByteOrder.TheVariants.{Big}
 use Rattle.media_files_captures.specs.declared.rtpdump.RtpdumpDatagram.{RtpdumpDatagram}
 
--- When a datagram came, in milliseconds behind the start; its length if it is RTP, and 0 if it is RTCP; what is kept.
+-- When a datagram came, in milliseconds after the start; its length if it is RTP, or 0 if RTCP; and the bytes kept.
 pub record Datagram : Type 0 where
   pub milliseconds : ℕ
   pub rtp_len : ℕ
@@ -25,12 +25,11 @@ abbrev pub rest_seen : Option (Bor (List ℕ)) → Option (List ℕ)
 rest_seen None = None
 rest_seen (Some rest) = Some rest.now
 
--- The first line of a file ends with a line feed, and begins so.
+-- The prefix of a file's first line, which ends with a line feed.
 abbrev pub first_line : List ℕ
 first_line = codes "#!rtpplay1.0 "
 
--- A header of 16 bytes stands behind the first line: start, address, port, two bytes that are not used. What follows
--- it are the records.
+-- A 16-byte header follows the first line: start time, address, port, two unused bytes. The records follow it.
 abbrev pub behind_line : Option ℕ → List ℕ → Option (List ℕ)
 behind_line None file = None
 behind_line (Some n) file = if nat_lt (length file) (n + 17) then None else Some (drop (n + 17) file)
@@ -39,7 +38,7 @@ unfoldable pub rtpdump_records : List ℕ → Option (List ℕ)
 rtpdump_records file =
     if starts_with nat_eq file first_line then behind_line (position (λ b. b == 10) file) file else None
 
--- A record: its length with its header of eight bytes, the length of the datagram, its time, what is kept.
+-- A record: its length including the eight-byte header, the datagram's length, its time, the bytes kept.
 abbrev pub datagram_of : List ℕ → Datagram
 datagram_of bytes = record {
   milliseconds = u32_at Big bytes 4;
@@ -54,7 +53,7 @@ rtpdump_record bytes =
     else if nat_lt (length bytes) (u16_be bytes 0) then None
     else Some (datagram_of bytes, drop (u16_be bytes 0) bytes)
 
--- A file of rtpdump has these datagrams, and behind the last one these bytes, which are no whole record.
+-- An rtpdump file holds these datagrams; the bytes left after the last one are not a complete record.
 abbrev pub IsRtpdump : List ℕ → List Datagram → List ℕ → Type 0
 IsRtpdump file datagrams unread = (records : List ℕ) × (rtpdump_records file ≡ Some records)
     × HoldsAll rtpdump_record records datagrams unread

@@ -1,4 +1,4 @@
-//! Protocols on one port, told apart by their first bytes (RFC 7983 7, RFC 5761 4).
+//! Protocols sharing one port, distinguished by their first bytes (RFC 7983 7, RFC 5761 4).
 
 ghost use Rattle.std.specs.Prelude.{◌≡◌, ◌≢◌, ◌⊎◌, ◌↔◌};
 ghost use Rattle.media_files_captures.specs.FirstBytes.{IsByteWithin};
@@ -22,9 +22,9 @@ pub enum DatagramKind {
     Other,
 }
 
-/// The protocol of a datagram by its first byte (RFC 7983 7), RTP and RTCP by the second: the packet types of RTCP
-/// are 192 to 223, which a port shared with RTP keeps free of payload types (RFC 5761 4). A datagram of one byte
-/// is neither.
+/// The protocol of a datagram by its first byte (RFC 7983 7); RTP and RTCP by the second: RTCP
+/// packet types are 192 to 223, values that RTP payload types avoid on a shared port (RFC 5761 4).
+/// A datagram of one byte is neither.
 pub fn kind_of(datagram: &[u8]) -> DatagramKind
     ensures stun { (result ≡ DatagramKind.Stun) ↔ IsByteWithin datagram.now 0 0 3 }
     ensures zrtp { (result ≡ DatagramKind.Zrtp) ↔ IsByteWithin datagram.now 0 16 19 }

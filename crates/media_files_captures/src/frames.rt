@@ -1,4 +1,4 @@
-//! The payload of the UDP datagram that a captured frame carries.
+//! The UDP datagram that a captured frame carries.
 
 ghost use Rattle.std.specs.Prelude.{◌≡◌, ◌+◌, ◌<◌, ◌≤◌, drop, length};
 ghost use Rattle.media_files_captures.specs.Frames.{behind, behind_extensions, datagram_in, ends, extended, extension};
@@ -12,7 +12,7 @@ use crate::numbers::{rest_from, u16_be};
 /// How a captured frame begins, by the number that a capture gives for it.
 #[derive(Debug, Clone, Copy, PartialEq, Eq)]
 pub enum LinkType {
-    /// Ethernet (number 1), with the tags of virtual networks.
+    /// Ethernet (number 1), with VLAN tags.
     Ethernet,
     /// Linux's cooked captures (number 113).
     LinuxCooked,
@@ -29,14 +29,25 @@ pub enum LinkType {
 /// Why a frame gives no datagram.
 #[derive(Debug, Clone, Copy, PartialEq, Eq)]
 pub enum PassedOver {
-    /// It carries no UDP over IP.
+    /// It doesn't carry UDP over IP.
     NotUdp,
-    /// It carries a part of a datagram.
+    /// It carries only a fragment of a datagram.
     Fragment,
     /// The capture kept too little of it.
     Cut,
     /// A length or a version in it contradicts the protocol.
     Malformed,
+}
+
+/// A UDP datagram (RFC 768).
+#[derive(Debug, Clone, Copy)]
+pub struct UdpDatagram<'a> {
+    /// The port that it comes from.
+    pub source_port: u16,
+    /// The port that it goes to.
+    pub destination_port: u16,
+    /// Its payload, as long as its header says.
+    pub payload: &'a [u8],
 }
 
 // The protocol numbers of UDP and of two extension headers.
@@ -46,9 +57,9 @@ const FRAGMENT: u8 = 44;
 
 const AUTHENTICATION: u8 = 51;
 
-/// The payload of a UDP datagram, as long as its header says.
+/// The UDP datagram in front of these bytes.
 #[tactic(auto, unfolding(crate::specs::Frames::udp))]
-fn udp_payload(bytes: &[u8]) -> Result<&[u8], PassedOver>
+fn udp_datagram(bytes: &[u8]) -> Result<UdpDatagram<'_>, PassedOver>
     ensures { shown result ≡ udp bytes.now }
 {
     if bytes.len() < 8 {
@@ -61,12 +72,16 @@ fn udp_payload(bytes: &[u8]) -> Result<&[u8], PassedOver>
     if bytes.len() < len {
         return Err(PassedOver::Cut);
     }
-    Ok(&bytes[8..len])
+    Ok(UdpDatagram {
+        source_port: u16_be(bytes, 0),
+        destination_port: u16_be(bytes, 2),
+        payload: &bytes[8..len],
+    })
 }
 
-/// The payload of the datagram in an IPv4 packet.
+/// The datagram in an IPv4 packet.
 #[tactic(auto, unfolding(crate::specs::Frames::ipv4, crate::specs::Frames::ipv4_payload))]
-fn ipv4_payload(bytes: &[u8]) -> Result<&[u8], PassedOver>
+fn ipv4_datagram(bytes: &[u8]) -> Result<UdpDatagram<'_>, PassedOver>
     ensures { shown result ≡ ipv4 bytes.now }
 {
     if bytes.len() < 20 {
@@ -85,7 +100,7 @@ fn ipv4_payload(bytes: &[u8]) -> Result<&[u8], PassedOver>
     if bytes.len() < header_len {
         return Err(PassedOver::Cut);
     }
-    udp_payload(rest_from(bytes, header_len))
+    udp_datagram(rest_from(bytes, header_len))
 }
 
 /// Whether a next header is an extension header.
@@ -107,7 +122,7 @@ fn extension_len(next: u8, bytes: &[u8]) -> usize
     }
 }
 
-/// Whether an extension header is one of a part of a datagram.
+/// Whether an extension header belongs to a fragment.
 fn is_ipv6_fragment(next: u8, bytes: &[u8]) -> bool
     requires { 7 < length bytes.now }
     ensures { result ≡ is_ipv6_fragment next bytes.now }
@@ -137,8 +152,8 @@ fn extension(next: u8, bytes: &[u8]) -> Result<(u8, &[u8]), PassedOver>
     Ok((bytes[0], rest_from(bytes, len)))
 }
 
-/// The payload of the datagram behind extension headers.
-fn behind_extensions(next: u8, bytes: &[u8], most: usize) -> Result<&[u8], PassedOver>
+/// The datagram behind extension headers.
+fn behind_extensions(next: u8, bytes: &[u8], most: usize) -> Result<UdpDatagram<'_>, PassedOver>
     ensures { shown result ≡ behind_extensions most next bytes.now }
 {
     let mut next = next;
@@ -152,13 +167,13 @@ fn behind_extensions(next: u8, bytes: &[u8], most: usize) -> Result<&[u8], Passe
     ended(next, rest)
 }
 
-/// The payload of the datagram, if it is one that stands here.
+/// The datagram, if it is one that stands here.
 #[tactic(auto, unfolding(crate::specs::Frames::ends))]
-fn ended(next: u8, bytes: &[u8]) -> Result<&[u8], PassedOver>
+fn ended(next: u8, bytes: &[u8]) -> Result<UdpDatagram<'_>, PassedOver>
     ensures { shown result ≡ ends next bytes.now }
 {
     if next == UDP {
-        return udp_payload(bytes);
+        return udp_datagram(bytes);
     }
     Err(if is_extension(next) {
         PassedOver::Cut
@@ -167,9 +182,9 @@ fn ended(next: u8, bytes: &[u8]) -> Result<&[u8], PassedOver>
     })
 }
 
-/// The payload of the datagram in an IPv6 packet.
+/// The datagram in an IPv6 packet.
 #[tactic(auto, unfolding(crate::specs::Frames::ipv6))]
-fn ipv6_payload(bytes: &[u8]) -> Result<&[u8], PassedOver>
+fn ipv6_datagram(bytes: &[u8]) -> Result<UdpDatagram<'_>, PassedOver>
     ensures { shown result ≡ ipv6 bytes.now }
 {
     if bytes.len() < 40 {
@@ -181,17 +196,17 @@ fn ipv6_payload(bytes: &[u8]) -> Result<&[u8], PassedOver>
     behind_extensions(bytes[6], rest_from(bytes, 40), bytes.len())
 }
 
-/// The payload of the datagram in an IP packet of either version.
+/// The datagram in an IP packet of either version.
 #[tactic(auto, unfolding(crate::specs::Frames::ip))]
-fn ip_payload(bytes: &[u8]) -> Result<&[u8], PassedOver>
+fn ip_datagram(bytes: &[u8]) -> Result<UdpDatagram<'_>, PassedOver>
     ensures { shown result ≡ ip bytes.now }
 {
     if bytes.is_empty() {
         return Err(PassedOver::Cut);
     }
     match bytes[0] / 16 {
-        4 => ipv4_payload(bytes),
-        6 => ipv6_payload(bytes),
+        4 => ipv4_datagram(bytes),
+        6 => ipv6_datagram(bytes),
         _ => Err(PassedOver::NotUdp),
     }
 }
@@ -216,15 +231,15 @@ fn untagged(kind: u16, bytes: &[u8]) -> (u16, &[u8])
     (kind, rest)
 }
 
-/// The payload of the datagram in a packet of this type, or of the type behind the tags.
+/// The datagram in a packet of this type, or of the type behind the tags.
 #[tactic(auto, unfolding(crate::specs::Frames::network))]
-fn network_payload(kind: u16, bytes: &[u8]) -> Result<&[u8], PassedOver>
+fn network_datagram(kind: u16, bytes: &[u8]) -> Result<UdpDatagram<'_>, PassedOver>
     ensures { shown result ≡ network kind bytes.now }
 {
     let (kind, packet) = untagged(kind, bytes);
     match kind {
-        0x0800 => ipv4_payload(packet),
-        0x86dd => ipv6_payload(packet),
+        0x0800 => ipv4_datagram(packet),
+        0x86dd => ipv6_datagram(packet),
         _ => Err(if is_tag(kind) {
             PassedOver::Cut
         } else {
@@ -233,8 +248,12 @@ fn network_payload(kind: u16, bytes: &[u8]) -> Result<&[u8], PassedOver>
     }
 }
 
-/// The payload of the datagram in a frame whose header has so many bytes, with the type of the packet at a place.
-fn typed_payload(frame: &[u8], kind_at: usize, header_len: usize) -> Result<&[u8], PassedOver>
+/// The datagram in a frame whose header has so many bytes, with the type of the packet at a place.
+fn typed_datagram(
+    frame: &[u8],
+    kind_at: usize,
+    header_len: usize,
+) -> Result<UdpDatagram<'_>, PassedOver>
     requires { kind_at + 2 ≤ header_len }
     ensures { shown result
         ≡ behind header_len frame.now (network (u16_be frame.now kind_at) (drop header_len frame.now)) }
@@ -242,32 +261,32 @@ fn typed_payload(frame: &[u8], kind_at: usize, header_len: usize) -> Result<&[u8
     if frame.len() < header_len {
         return Err(PassedOver::Cut);
     }
-    network_payload(u16_be(frame, kind_at), rest_from(frame, header_len))
+    network_datagram(u16_be(frame, kind_at), rest_from(frame, header_len))
 }
 
-/// The payload of the datagram in an IP packet behind four bytes.
-fn loopback_payload(frame: &[u8]) -> Result<&[u8], PassedOver>
+/// The datagram in an IP packet behind four bytes.
+fn loopback_datagram(frame: &[u8]) -> Result<UdpDatagram<'_>, PassedOver>
     ensures { shown result ≡ behind 4 frame.now (ip (drop 4 frame.now)) }
 {
     if frame.len() < 4 {
         return Err(PassedOver::Cut);
     }
-    ip_payload(rest_from(frame, 4))
+    ip_datagram(rest_from(frame, 4))
 }
 
-/// The payload of the UDP datagram in a frame, as long as the datagram's own length says.
+/// The UDP datagram in a frame.
 ///
 /// # Errors
 /// Why the frame gives none: it carries something else, a fragment, less than its lengths say, or a contradiction.
-pub fn udp_payload_in(link: LinkType, frame: &[u8]) -> Result<&[u8], PassedOver>
+pub fn udp_datagram_in(link: LinkType, frame: &[u8]) -> Result<UdpDatagram<'_>, PassedOver>
     ensures { shown result ≡ datagram_in link frame.now }
 {
     match link {
-        LinkType::Ethernet => typed_payload(frame, 12, 14),
-        LinkType::LinuxCooked => typed_payload(frame, 14, 16),
-        LinkType::LinuxCooked2 => typed_payload(frame, 0, 20),
-        LinkType::Raw => ip_payload(frame),
-        LinkType::Loopback => loopback_payload(frame),
+        LinkType::Ethernet => typed_datagram(frame, 12, 14),
+        LinkType::LinuxCooked => typed_datagram(frame, 14, 16),
+        LinkType::LinuxCooked2 => typed_datagram(frame, 0, 20),
+        LinkType::Raw => ip_datagram(frame),
+        LinkType::Loopback => loopback_datagram(frame),
         LinkType::Other => Err(PassedOver::NotUdp),
     }
 }

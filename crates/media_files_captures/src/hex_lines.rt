@@ -25,7 +25,7 @@ pub struct HexDatagram {
 /// Why a text of hexadecimal can't be read.
 #[derive(Clone, Copy, Debug, PartialEq, Eq, Drop, Error)]
 pub enum HexError {
-    /// The line of this number, counted from 1, is no datagram.
+    /// The line with this number (from 1) is not a datagram.
     #[error("line {0}: no hexadecimal digits in pairs, with or without milliseconds in front")]
     BadLine(u64),
     /// There is no memory for the datagrams.

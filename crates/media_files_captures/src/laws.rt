@@ -7,8 +7,8 @@ ghost use Rattle.media_files_captures.specs.Pcap.{IsPcap};
 ghost use Rattle.media_files_captures.specs.Pcapng.{IsPcapng};
 ghost use Rattle.media_files_captures.specs.Rtpdump.{Datagram as Dumped, IsRtpdump};
 
-/// A file holds one list of packets or datagrams, with one rest behind it: nothing of it is handed out twice, left out
-/// or put elsewhere.
+/// A file holds exactly one list of packets or datagrams, and one rest after it: nothing is handed
+/// out twice, left out or reordered.
 pub fn capture_laws()
     ensures pcap { (file : List ℕ) (packets others : List Packet) (unread left : List ℕ) → IsPcap file packets unread
         → IsPcap file others left → (packets ≡ others) × (unread ≡ left) }

@@ -14,7 +14,7 @@ mod rtpdump;
 
 pub use captures::{Capture, CaptureError, CapturedPacket, Resolution};
 pub use first_bytes::{DatagramKind, kind_of};
-pub use frames::{LinkType, PassedOver, udp_payload_in};
+pub use frames::{LinkType, PassedOver, UdpDatagram, udp_datagram_in};
 pub use hex_lines::{HexDatagram, HexError, read_hex_lines};
 pub use interfaces::Interface;
 pub use laws::capture_laws;

@@ -48,7 +48,7 @@ fn digits_of(magic: u32) -> Option<u8>
     }
 }
 
-/// The byte order of a file, and how many decimal digits the fractions of its seconds have.
+/// A file's byte order, and the number of decimal digits in its fractions of a second.
 #[tactic(auto, unfolding(crate::specs::Pcap::pcap_format))]
 fn format_of(file: &[u8]) -> Option<(ByteOrder, u8)>
     requires { 4 ≤ length file.now }

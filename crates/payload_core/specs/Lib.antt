@@ -12,7 +12,7 @@ pub use Rattle.payload_core_av1.specs.Bounds
 pub use Rattle.payload_core_av1.specs.Leb128
 pub use Rattle.payload_core_av1.specs.Obus
 pub use Rattle.payload_core_av1.specs.Samples
-pub use Rattle.payload_core_base.specs.Codecs
+pub use Rattle.media_types.specs.Codecs
 pub use Rattle.payload_core_base.specs.Format
 pub use Rattle.payload_core_base.specs.Law
 pub use Rattle.payload_core_base.specs.Outgoing

@@ -1,7 +1,8 @@
-//! Payload formats of RTP: what every codec meets, audio and video payloads, and the buffer over any codec. What
-//! their calls name of the wire stands here too.
+//! RTP payload formats: what all codecs share, audio and video payloads, and the jitter buffer for
+//! any codec. The RTP types that their calls use are re-exported here.
 #![tactic(auto)]
 
+pub use media_types::{Codec, MediaKind};
 pub use payload_core_audio::{
     AmrWbDepacketizer, AmrWbPacketizer, ComfortNoiseDepacketizer, ComfortNoisePacketizer,
     G7xxPacketizer, G711Depacketizer, G711Packetizer, G722Packetizer, OpusDepacketizer,
@@ -14,9 +15,9 @@ pub use payload_core_av1::{
     av1_size_law, detect_av1_keyframe,
 };
 pub use payload_core_base::{
-    Av1CodecExtra, Codec, CodecExtra, Depacketizer, H264CodecExtra, H265CodecExtra, H266CodecExtra,
-    MediaKind, PacketError, PacketList, PacketSink, Packetizer, Payloader, SentPacket,
-    TelephoneEvent, TelephoneEvents, Vp8CodecExtra, Vp9CodecExtra, telephone_event_law,
+    Av1CodecExtra, CodecExtra, Depacketizer, H264CodecExtra, H265CodecExtra, H266CodecExtra,
+    PacketError, PacketList, PacketSink, Packetizer, Payloader, SentPacket, TelephoneEvent,
+    TelephoneEvents, Vp8CodecExtra, Vp9CodecExtra, telephone_event_law,
 };
 pub use payload_core_buffer::{
     Depacketized, DepacketizingBuffer, MAX_HELD, MIN_HELD, RtpMeta, frames_law, may_hold,
@@ -26,6 +27,7 @@ pub use payload_core_vpx::{
     Vp8PatchBuilder, Vp8PatchError, Vp9Depacketizer, Vp9Packetizer, detect_vp8_keyframe,
     vp8_keyframe_law, vp8_law, vp8_layout_law, vp8_patch_law, vp9_law, vp9_layout_law,
 };
-pub use rtp_wire::{Frequency, ParseFrequencyError};
-pub use rtp_wire_extensions::{AbsCaptureTime, ExtensionValues, VideoOrientation};
-pub use rtp_wire_values::{ClockRate, Mid, Pt, Rid, SeqNo};
+pub use rtp_wire::{
+    AbsCaptureTime, ClockRate, ExtensionValues, Frequency, Mid, ParseFrequencyError, Pt, Rid,
+    SeqNo, VideoOrientation,
+};

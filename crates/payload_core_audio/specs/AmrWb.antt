@@ -12,11 +12,11 @@ use Rattle.payload_core_base.specs.declared.error.PacketError.TheVariants.{ErrPa
 use Rattle.payload_core_base.specs.declared.extra.CodecExtra.{CodecExtra}
 use Rattle.payload_core_base.specs.Stateless.{AnySender, no_marker, sent_as, stays_idle, unit_of_piece}
 
--- The bit at a place of a text, counted from the high bit of the first byte.
+-- The bit of a text with this index, counted from the first byte's high bit.
 abbrev pub bit_of : List ℕ → ℕ → ℕ
 bit_of bytes i = slice_index bytes (i / 8) / 2 ^ (7 - i % 8) % 2
 
--- A byte of a bit string, and its first bytes.
+-- Byte k of a bit string, and its first bytes.
 abbrev pub byte_from : (ℕ → ℕ) → ℕ → ℕ
 byte_from bit k = bit (8 * k) * 128 + bit (8 * k + 1) * 64 + bit (8 * k + 2) * 32 + bit (8 * k + 3) * 16 + bit
     (8 * k + 4) * 8 + bit (8 * k + 5) * 4 + bit (8 * k + 6) * 2 + bit (8 * k + 7)
@@ -24,29 +24,29 @@ byte_from bit k = bit (8 * k) * 128 + bit (8 * k + 1) * 64 + bit (8 * k + 2) * 3
 abbrev pub bytes_from : (ℕ → ℕ) → ℕ → List ℕ
 bytes_from bit n = map (byte_from bit) (range_with_len 0 n)
 
--- So many bits of a text from a place on, and zeros behind them.
+-- `size` bits of a text from an offset on, followed by zeros.
 abbrev pub field_of : List ℕ → ℕ → ℕ → ℕ → ℕ
 field_of bytes place size i = if nat_lt i size then bit_of bytes (place + i) else 0
 
--- So many speech bits from a place on, filled up to whole bytes.
+-- `size` speech bits from an offset on, padded to whole bytes.
 unfoldable pub speech_of : List ℕ → ℕ → ℕ → List ℕ
 speech_of bytes place size = bytes_from (field_of bytes place size) ((size + 7) / 8)
 
--- The entry of the table of contents at a place as the byte 0, FT(4), Q, 00 (RFC 4867 4.3.2 and 5.3).
+-- The table-of-contents entry at this bit offset, as the byte 0, FT(4), Q, 00 (RFC 4867 4.3.2 and 5.3).
 unfoldable pub header_at : List ℕ → ℕ → ℕ
 header_at bytes place = bit_of bytes (place + 1) * 64 + bit_of bytes (place + 2) * 32 + bit_of bytes (place + 3) * 16
     + bit_of bytes (place + 4) * 8 + bit_of bytes (place + 5) * 4
 
--- How many speech bits the frame types 0 to 9 have (3GPP TS 26.201).
+-- The number of speech bits of frame types 0 to 9 (3GPP TS 26.201).
 abbrev pub speech_table : List ℕ
 speech_table = 132 ∷ 177 ∷ 253 ∷ 285 ∷ 317 ∷ 365 ∷ 397 ∷ 461 ∷ 477 ∷ 40 ∷ []
 
--- Frame types 14 and 15 have none, 10 to 13 are for later use.
+-- Frame types 14 and 15 have none; 10 to 13 are reserved.
 abbrev pub speech_bits : ℕ → Option ℕ
 speech_bits ft = if nat_lt ft 10 then Some (slice_index speech_table ft) else (if nat_lt ft 14 then None else Some 0)
 
--- In the octet-aligned layout the mode request, an entry and a frame's speech fill whole bytes; in the
--- bandwidth-efficient one they have 4 bits, 6 bits, and as many as there are.
+-- In octet-aligned mode the mode request, each entry and each frame's speech fill whole bytes; in bandwidth-efficient
+-- mode they take 4 bits, 6 bits, and the exact number of speech bits.
 abbrev pub head_size : Bool → ℕ
 head_size octet_align = if octet_align then 8 else 4
 
@@ -56,16 +56,16 @@ entry_size octet_align = if octet_align then 8 else 6
 abbrev pub field_size : Bool → ℕ → ℕ
 field_size octet_align size = if octet_align then (size + 7) / 8 * 8 else size
 
--- Where the entry of a frame stands.
+-- The bit offset of frame k's entry.
 abbrev pub entry_place : Bool → ℕ → ℕ
 entry_place octet_align k = head_size octet_align + k * entry_size octet_align
 
--- The first of n places from k on at which a test holds.
+-- The first of the n indices from k on that passes the test.
 abbrev pub first_place : (ℕ → Bool) → ℕ → ℕ → Option ℕ
 first_place p k zero = None
 first_place p k (suc n) = if p k then Some k else first_place p (k + 1) n
 
--- The last entry of a packet is the first whose F bit is clear, if all entries up to it are there.
+-- The last entry is the first one whose F bit is clear, if all entries up to it fit in the packet.
 abbrev pub entry_room : Bool → List ℕ → ℕ
 entry_room octet_align bytes = (8 * length bytes - head_size octet_align) / entry_size octet_align
 
@@ -75,20 +75,20 @@ is_last_entry octet_align bytes k = bit_of bytes (entry_place octet_align k) == 
 unfoldable pub last_entry : Bool → List ℕ → Option ℕ
 last_entry octet_align bytes = first_place (is_last_entry octet_align bytes) 0 (entry_room octet_align bytes)
 
--- Bytes in front of others, if these are there.
+-- Bytes in front of others, if there are others.
 abbrev pub behind : List ℕ → Option (List ℕ) → Option (List ℕ)
 behind bytes None = None
 behind bytes (Some others) = Some (bytes ++ others)
 
--- A frame of this header and so many speech bits, and what follows its speech; a frame of another type, and one that
--- is cut short, is a fault.
+-- A frame with this header and so many speech bits, then what follows its speech; a reserved frame type or a frame cut
+-- short is a fault.
 abbrev pub frame_then : Bool → List ℕ → ℕ → Option ℕ → ℕ → (ℕ → Option (List ℕ)) → Option (List ℕ)
 frame_then octet_align bytes header None place others = None
 frame_then octet_align bytes header (Some size) place others =
     if nat_le (place + field_size octet_align size) (8 * length bytes)
     then behind (header ∷ speech_of bytes place size) (others (place + field_size octet_align size)) else None
 
--- So many frames from the k-th on, whose speech stands from a place on: each gives its header and its speech.
+-- n frames, from the k-th on, whose speech starts at this offset: each gives its header and its speech.
 abbrev pub frames_from : Bool → List ℕ → ℕ → ℕ → ℕ → Option (List ℕ)
 frames_from octet_align bytes zero k place = Some []
 frames_from octet_align bytes (suc n) k place =
@@ -117,7 +117,8 @@ amr_wb_format octet_align = record {
   read = λ fragment extra packet. reading_of_frames (frames_of octet_align packet) fragment extra;
 }
 
--- How many speech bits a sample has: one byte with its frame type, and just the bytes of so many bits.
+-- The number of speech bits of a sample: its first byte gives the frame type, and it must have exactly as many bytes as
+-- that type needs.
 abbrev pub size_if : Option ℕ → ℕ → Option ℕ
 size_if None count = None
 size_if (Some size) count = if count == (size + 7) / 8 + 1 then Some size else None
@@ -142,7 +143,7 @@ pack_sized octet_align sender limit sample (Some size) =
     if nat_lt limit (length (amr_wb_packet octet_align sample size)) then Err ErrPayloadTooLarge
     else sent_as sender (amr_wb_packet octet_align sample size ∷ [])
 
--- One packet; another fault of the sample comes before the limit.
+-- One packet; other faults of the sample are reported before the limit.
 abbrev pub pack_amr_wb : Bool → Sender → ℕ → List ℕ → Result Sent PacketError
 pack_amr_wb octet_align sender limit [] = sent_as sender []
 pack_amr_wb octet_align sender limit (b ∷ bs) = pack_sized octet_align sender limit (b ∷ bs) (sample_size (b ∷ bs))
@@ -150,12 +151,12 @@ pack_amr_wb octet_align sender limit (b ∷ bs) = pack_sized octet_align sender 
 abbrev pub amr_wb_packing : Bool → Packing
 amr_wb_packing octet_align = record { pack = pack_amr_wb octet_align; marks = no_marker }
 
--- The canonical speech of a sample: its header, and its speech bits with zeros behind them.
+-- The canonical form of a sample: its header, and its speech bits padded with zeros.
 abbrev pub speech_unit : List ℕ → Option ℕ → List ℕ
 speech_unit sample None = []
 speech_unit sample (Some size) = header_at sample 0 ∷ speech_of sample 8 size
 
--- The sample has just the bytes of its frame type, and its packet doesn't pass the limit.
+-- The sample has exactly the bytes of its frame type, and its packet doesn't exceed the limit.
 abbrev pub IsSized : Bool → ℕ → List ℕ → Option ℕ → Type 0
 IsSized octet_align limit sample None = ⊥
 IsSized octet_align limit sample (Some size) = length (amr_wb_packet octet_align sample size) ≤ limit

@@ -10,15 +10,15 @@ use Rattle.payload_core_base.specs.declared.error.PacketError.{PacketError}
 use Rattle.payload_core_base.specs.declared.error.PacketError.TheVariants.{ErrShortPacket, ErrPayloadTooLarge}
 use Rattle.payload_core_base.specs.declared.extra.CodecExtra.{CodecExtra}
 
--- Opus, G.711 and G.722: the pieces of the limit (RFC 7587 4.2, RFC 3551 4.5).
+-- Opus, G.711 and G.722: pieces of at most the limit (RFC 7587 4.2, RFC 3551 4.5).
 abbrev pub pieces_packing : Packing
 pieces_packing = record { pack = λ sender limit sample. sent_as sender (pieces limit sample); marks = no_marker }
 
--- The sample has a byte, and fits the limit: it is its one piece.
+-- The sample isn't empty and fits the limit, so it is a single piece.
 abbrev pub is_one_piece : ℕ → List ℕ → Bool
 is_one_piece limit sample = nat_lt 0 (length sample) && nat_le (length sample) limit
 
--- The one packet of a sample that can't be cut: none for an empty sample, and none that passes the limit.
+-- The single packet of a sample that can't be cut; none for an empty sample; refused if it exceeds the limit.
 abbrev pub pack_whole : Sender → ℕ → List ℕ → Result Sent PacketError
 pack_whole sender limit [] = sent_as sender []
 pack_whole sender limit (b ∷ bs) = if nat_lt limit (length (b ∷ bs)) then Err ErrPayloadTooLarge
@@ -28,7 +28,7 @@ pack_whole sender limit (b ∷ bs) = if nat_lt limit (length (b ∷ bs)) then Er
 abbrev pub noise_packing : Packing
 noise_packing = record { pack = pack_whole; marks = no_marker }
 
--- A packet with a byte is written as it is.
+-- A nonempty packet is output unchanged.
 abbrev pub read_plain : Fragment → CodecExtra → List ℕ → Result Reading PacketError
 read_plain fragment extra [] = Err ErrShortPacket
 read_plain fragment extra (b ∷ bs) = Ok (record { written = b ∷ bs; extra = extra; fragment = fragment })
@@ -37,7 +37,7 @@ read_plain fragment extra (b ∷ bs) = Ok (record { written = b ∷ bs; extra = 
 abbrev pub plain_format : Format
 plain_format = record { head = λ packet. true; tail = λ marker packet. true; read = read_plain }
 
--- Opus, G.711 and G.722: a sample with a byte is well-formed, and its units are its pieces.
+-- Opus, G.711 and G.722: every nonempty sample is well-formed, and its units are its pieces.
 abbrev pub pieces_coding : Coding
 pieces_coding = record {
   packing = pieces_packing;
@@ -48,7 +48,7 @@ pieces_coding = record {
   after = stays_idle;
 }
 
--- Comfort noise: a sample with a byte that doesn't pass the limit is well-formed, and is its unit.
+-- Comfort noise: a nonempty sample within the limit is well-formed, and is its unit.
 abbrev pub noise_coding : Coding
 noise_coding = record {
   packing = noise_packing;

@@ -1,35 +1,35 @@
--- Payloads with redundancy: older payloads, and a primary one (RFC 2198 3).
+-- RED payloads: older payloads, then the primary one (RFC 2198 3).
 use Rattle.std.specs.Prelude.{◌≡◌, ℕ, ◌+◌, ◌*◌, ◌/◌, ◌%◌, ◌<◌, ◌≤◌, List, [], ◌∷◌, ◌++◌, All, flat_map, length}
 
--- An older payload: its type, how many ticks of the RTP clock it is older than the primary one, and its bytes.
+-- A redundant block: its payload type, its timestamp offset (RTP ticks before the primary), and its payload.
 pub record Block : Type 0 where
   pub pt : ℕ
   pub timestamp_offset : ℕ
   pub payload : List ℕ
 
--- A header has room for the block: 7 bits for its type, 14 for its offset, 10 for its length.
+-- The block fits its header: 7 bits of payload type, 14 of timestamp offset, 10 of length.
 pub record HasRoom (b : Block) : Type 0 where
   pub pt : b.pt < 128
   pub timestamp_offset : b.timestamp_offset < 16384
   pub payload : length b.payload < 1024
 
--- The header of a block: F set, the type, the offset and the length, in 32 bits.
+-- The header of a redundant block: F set, payload type, timestamp offset and length, in 32 bits.
 abbrev pub header : Block → List ℕ
 header b = (128 + b.pt) ∷ b.timestamp_offset / 64 ∷ (b.timestamp_offset % 64 * 4 + length b.payload / 256)
     ∷ length b.payload % 256 ∷ []
 
--- The headers of the blocks, the primary payload's header, which is its type with F clear, the payloads of the
--- blocks, and the primary payload.
+-- A RED payload: the block headers, the primary header (its payload type, F clear), the block payloads, the primary
+-- payload.
 abbrev pub spelled : List Block → ℕ → List ℕ → List ℕ
 spelled blocks pt primary = flat_map header blocks ++ (pt ∷ (flat_map (λ b. b.payload) blocks ++ primary))
 
--- The packet has these blocks, at most 32, and this primary payload of this type.
+-- The packet consists of these blocks, at most 32, and this primary payload with this payload type.
 pub record IsRed (packet : List ℕ) (blocks : List Block) (pt : ℕ) (primary : List ℕ) : Type 0 where
   pub is_spelled : packet ≡ spelled blocks pt primary
   pub few : length blocks ≤ 32
   pub room : All HasRoom blocks
   pub primary_pt : pt < 128
 
--- No blocks and primary payload are spelled so.
+-- No blocks and primary payload have this spelling.
 abbrev pub IsNotRed : List ℕ → Type 0
 IsNotRed packet = (blocks : List Block) (pt : ℕ) (primary : List ℕ) → IsRed packet blocks pt primary → ⊥

@@ -1,8 +1,8 @@
--- What a sender of redundancy keeps.
+-- What a RED sender keeps.
 use Rattle.std.specs.Prelude.{ℕ, ◌<◌, ◌≤◌, List, ◌∷◌, All, AllPairs, take}
 use Rattle.payload_core_audio.specs.declared.history.KeptPayload.{KeptPayload}
 
--- A payload that was wrapped, with its type and its RTP time.
+-- A payload that was wrapped, with its payload type and its timestamp.
 pub record Kept : Type 0 where
   pub pt : ℕ
   pub time : ℕ
@@ -11,18 +11,17 @@ pub record Kept : Type 0 where
 abbrev pub kept_of : KeptPayload → Kept
 kept_of k = record { pt = k.pt; time = k.time; payload = k.payload.items }
 
--- A sender: how far back the payloads stand that are sent once more, and the payloads that were wrapped, the newest
--- first.
+-- A RED sender: the distances of the payloads it repeats, and the payloads it wrapped, newest first.
 pub record Redundancy : Type 0 where
   pub distances : List ℕ
   pub history : List Kept
 
--- Distances rise, and are 1 to 8.
+-- Distances are strictly increasing, from 1 to 8.
 pub record AreDistances (distances : List ℕ) : Type 0 where
   pub rising : AllPairs (λ a b. a < b) distances
   pub in_range : All (λ d. (0 < d) × (d ≤ 8)) distances
 
--- The sender with one payload more, of which it keeps the newest eight.
+-- The sender after one more payload; it keeps the newest eight.
 abbrev pub keeping : Redundancy → ℕ → List ℕ → ℕ → Redundancy
 keeping r pt payload time = record {
   distances = r.distances;

@@ -1,4 +1,4 @@
--- What a sink takes that sends payloads with redundancy.
+-- What a sink that sends RED payloads takes.
 use Rattle.std.specs.Prelude.{◌≡◌, ℕ, ◌⊎◌, ◌++◌, ◌∷◌, [], List}
 use Rattle.std.proofs.Common.{ap, inl, inr}
 use Rattle.payload_core_base.specs.Outgoing.{Outgoing, outgoing}
@@ -6,8 +6,8 @@ use Rattle.payload_core_audio.specs.RedHistory.{keeping}
 use Rattle.payload_core_audio.specs.RedWrapping.{IsWrap}
 use Rattle.payload_core_audio.specs.declared.sink.RedSink.{RedSink}
 
--- The inner sink took one payload, the wrap of this one, with its marker, time and values, and the sender keeps the
--- payload.
+-- The inner sink took one payload: this payload, wrapped, with its marker bit, timestamp and header extensions; and the
+-- sender keeps the payload.
 pub record TakesWrapped {S : Type 0} (takes : S → Outgoing → S → Type 0) (old : RedSink S) (o : Outgoing)
     (new : RedSink S) : Type 0 where
   pub sent : List ℕ
@@ -17,21 +17,21 @@ pub record TakesWrapped {S : Type 0} (takes : S → Outgoing → S → Type 0) (
   pub pt : new.pt ≡ old.pt
   pub budget : new.budget ≡ old.budget
 
--- The inner sink took nothing, and the sender is as it was.
+-- The inner sink took nothing, and the sender didn't change.
 pub record KeepsWrapped {S : Type 0} (keeps : S → S → Type 0) (old new : RedSink S) : Type 0 where
   pub sink : (new.sink ≡ old.sink) ⊎ keeps old.sink new.sink
   pub sender : new.sender ≡ old.sender
   pub pt : new.pt ≡ old.pt
   pub budget : new.budget ≡ old.budget
 
--- What the inner sink has of the wrap of a payload.
+-- The inner sink's entry for the wrapped payload.
 pub record BecomesWrapped {S E : Type 0} (becomes : S → Outgoing → E → Type 0) (old : RedSink S) (o : Outgoing) (e : E)
     : Type 0 where
   pub sent : List ℕ
   pub is_wrap : IsWrap old.sender old.pt o.payload o.time old.budget sent
   pub becomes_it : becomes old.sink (outgoing sent o.marker o.time o.values) e
 
--- Where the inner sink has one more, so has this one, and where it has none more, this one has none.
+-- If the inner sink has one entry more, so has this one; if not, neither has this one.
 pub wrapped_more : {S E : Type 0} (entries : S → List E) (becomes : S → Outgoing → E → Type 0)
     (takes : S → Outgoing → S → Type 0)
     → ((old : S) (o : Outgoing) (new : S) → takes old o new → (e : E) × becomes old o e

@@ -1,4 +1,4 @@
--- Blocks and payloads of the code, as the definitions see them.
+-- The program's blocks and payloads as the definitions model them.
 use Rattle.std.specs.Prelude.{List}
 use Rattle.payload_core_audio.specs.Red.{Block}
 use Rattle.payload_core_audio.specs.RedReading.{Item, items_from}
@@ -16,6 +16,6 @@ old_block b = record { pt = b.pt; timestamp_offset = b.timestamp_offset; payload
 abbrev pub item_of : RedBlock → Item
 item_of b = record { pt = b.pt; timestamp_offset = b.timestamp_offset; payload = b.payload.now; primary = b.primary }
 
--- The payloads that are still to come.
+-- The payloads the iterator has yet to yield.
 abbrev pub items_left : RedBlocks → List Item
 items_left blocks = items_from blocks.left blocks.headers.now blocks.payloads.now

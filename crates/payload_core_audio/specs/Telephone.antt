@@ -10,7 +10,7 @@ use Rattle.payload_core_base.specs.declared.extra.CodecExtra.{CodecExtra}
 use Rattle.payload_core_base.specs.declared.extra.CodecExtra.TheVariants.{Tele}
 use Rattle.payload_core_base.specs.Stateless.{AnySender, no_marker, sent_as, stays_idle, unit_of_piece}
 
--- The reports leave as they are, in one packet.
+-- The reports are sent unchanged, in one packet.
 abbrev pub pack_reports : Sender → ℕ → List ℕ → Result Sent PacketError
 pack_reports sender limit [] = sent_as sender []
 pack_reports sender limit (b ∷ bs) =
@@ -21,12 +21,12 @@ pack_reports sender limit (b ∷ bs) =
 abbrev pub telephone_packing : Packing
 telephone_packing = record { pack = pack_reports; marks = no_marker }
 
--- The first report with R clear, and none where there are fewer than four bytes.
+-- The first report with R clear; none if there are fewer than four bytes.
 abbrev pub first_report : List ℕ → List ℕ
 first_report (event ∷ flags ∷ high ∷ low ∷ rest) = event ∷ without_r flags ∷ high ∷ low ∷ []
 first_report _ = []
 
--- The first report is written with R clear, and told as an event at the clock rate.
+-- The first report is output with R clear, and reported as an event with a duration by the clock rate.
 abbrev pub reading_of_reports : ℕ → Fragment → List ℕ → Result Reading PacketError
 reading_of_reports rate fragment (event ∷ flags ∷ high ∷ low ∷ rest) =
     Ok (record {
@@ -46,7 +46,7 @@ read_reports rate fragment extra packet = if is_reports packet then reading_of_r
 abbrev pub telephone_format : ℕ → Format
 telephone_format rate = record { head = λ packet. true; tail = λ marker packet. true; read = read_reports rate }
 
--- One report that fits the limit is well-formed, and its unit is the report with R clear.
+-- A single report within the limit is well-formed, and its unit is the report with R clear.
 abbrev pub telephone_coding : ℕ → Coding
 telephone_coding rate = record {
   packing = telephone_packing;

@@ -13,10 +13,10 @@ use crate::field::{front_of, header_at, push_speech};
 use payload_core_base::{CodecExtra, Depacketizer, PacketError, Packetizer};
 use std::alloc::{AllocError, Global};
 
-// How many speech bits the frame types 0 to 9 have (3GPP TS 26.201).
+// The number of speech bits of frame types 0 to 9 (3GPP TS 26.201).
 const SPEECH_BITS: [u16; 10] = [132, 177, 253, 285, 317, 365, 397, 461, 477, 40];
 
-/// How many speech bits a frame type has; None where the type is for later use.
+/// The number of speech bits of a frame type; None if the type is reserved.
 fn speech_bits(ft: u8) -> Option<usize>
     requires { ft < 16 }
     ensures value { result ≡ speech_bits ft }

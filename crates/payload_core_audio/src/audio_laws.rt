@@ -5,8 +5,8 @@ ghost use Rattle.payload_core_audio.specs.Telephone.{telephone_coding};
 ghost use Rattle.payload_core_base.specs.Law.{CodecLaw};
 ghost use Rattle.std.specs.Prelude.{ℕ};
 
-/// Opus, G.711, G.722 and comfort noise keep the codec law: of the first three each piece of a sample is a
-/// unit, of comfort noise the sample.
+/// Opus, G.711, G.722 and comfort noise obey the codec law: for the first three each piece of a
+/// sample is a unit, for comfort noise the sample.
 pub fn plain_laws()
     ensures pieces { CodecLaw pieces_coding }
     ensures noise { CodecLaw noise_coding }

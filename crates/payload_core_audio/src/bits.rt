@@ -12,7 +12,7 @@ pub fn octet_at(bytes: &[u8], k: usize) -> u8
     bytes.get(k).copied().unwrap_or(0)
 }
 
-/// A place among the bits of a text.
+/// A bit position in a text.
 #[derive(Clone, Copy, Drop)]
 pub struct BitPlace {
     octet: usize,

@@ -6,7 +6,7 @@ ghost use Rattle.std.specs.Prelude.{◌≡◌};
 
 use crate::spelling::fields_fit;
 
-/// An older payload that is to be sent once more, beside a newer one (RFC 2198 3).
+/// An older payload to be repeated beside a newer one (RFC 2198 3).
 #[derive(Debug)]
 pub struct RedundantBlock {
     /// Its payload type, of which the low seven bits are sent.
@@ -17,7 +17,7 @@ pub struct RedundantBlock {
     pub payload: Vec<u8>,
 }
 
-/// Written by hand so that crates that drop this type need no proof about its fields.
+/// Written by hand, so that crates that drop this type need no proof about its fields.
 impl Drop for RedundantBlock {
     fn drop(self) {
         let RedundantBlock {
@@ -29,7 +29,8 @@ impl Drop for RedundantBlock {
 }
 
 impl RedundantBlock {
-    /// Whether a block's header has room for it: an offset of at most 16,383 ticks, and at most 1,023 bytes.
+    /// Whether it fits a block header: a timestamp offset of at most 16,383 ticks, and at most
+    /// 1,023 bytes.
     pub fn fits(&self) -> bool
         ensures { result ≡ fits (block_of self.now) }
     {
@@ -37,7 +38,7 @@ impl RedundantBlock {
     }
 }
 
-/// A payload that a packet with redundancy has, which borrows from the packet (RFC 2198 3).
+/// A payload of a RED packet, borrowed from the packet (RFC 2198 3).
 #[derive(Clone, Copy, Debug, PartialEq, Eq, Drop)]
 pub struct RedBlock<'a> {
     /// Its payload type, at most 127.

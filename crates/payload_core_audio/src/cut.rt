@@ -22,7 +22,7 @@ pub fn cut(alloc: Global, limit: usize, bytes: &[u8]) -> Result<Vec<Vec<u8>>, Al
     Ok(packets)
 }
 
-/// Whether a sample is its one piece at a limit: it has a byte, and fits.
+/// Whether a sample is a single piece at a limit: it isn't empty, and fits.
 #[tactic(auto, using(crate::proofs::PlainLemmas::one_piece))]
 pub fn is_one_piece(limit: usize, bytes: &[u8]) -> bool
     ensures exactly { result ≡ is_one_piece limit bytes.now }

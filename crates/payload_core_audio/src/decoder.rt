@@ -15,8 +15,8 @@ use payload_core_base::{PacketError, byte_at};
 #[derive(Clone, Copy, Debug, Drop)]
 pub struct RedDecoder;
 
-/// The payloads of a packet, which they borrow from: the redundant ones in the order of the wire, at most 32,
-/// and then the primary one.
+/// The payloads of a RED packet, borrowed from it: the redundant ones in wire order (at most 32),
+/// then the primary one.
 #[derive(Clone, Copy, Debug, Drop)]
 pub struct RedBlocks<'a> {
     headers: &'a [u8],
@@ -60,7 +60,7 @@ fn count_of_blocks(packet: &[u8]) -> Option<usize>
     None
 }
 
-/// The bytes of the payloads of so many blocks.
+/// The number of payload bytes of n blocks.
 fn size_of_blocks(count: usize, packet: &[u8]) -> usize
     requires { count ≤ 32 }
     ensures value { result ≡ size_of_blocks count packet.now }

@@ -17,7 +17,7 @@ pub struct KeptPayload {
     pub payload: Vec<u8>,
 }
 
-/// Written by hand so that crates that drop this type need no proof about its fields.
+/// Written by hand, so that crates that drop this type need no proof about its fields.
 impl Drop for KeptPayload {
     fn drop(self) {
         let KeptPayload {
@@ -41,7 +41,7 @@ fn level(history: &[KeptPayload], time: u32, distance: u32) -> Option<OldPayload
     })
 }
 
-/// The existing levels that fit a block, the shallowest first.
+/// The available blocks that fit their headers, nearest first.
 pub fn levels<'a>(
     alloc: Global,
     history: &'a [KeptPayload],

@@ -10,12 +10,12 @@ use crate::cut::{cut, is_one_piece};
 use payload_core_base::{CodecExtra, Depacketizer, PacketError, Packetizer};
 use std::alloc::Global;
 
-/// Cuts samples into pieces of the limit, which have nothing beside the sample's bytes.
+/// Cuts samples into pieces of at most the limit, without any header.
 #[derive(Clone, Copy, Debug, Drop)]
 pub struct PlainPacketizer;
 
-/// Cuts Opus samples (RFC 7587 4.2). Browsers drop a sample that leaves in pieces: choose a limit above the longest
-/// sample.
+/// Cuts Opus samples (RFC 7587 4.2). Browsers drop a sample sent in several packets: choose a limit
+/// above the longest sample.
 pub type OpusPacketizer = PlainPacketizer;
 
 /// Cuts G.711 and G.722 samples (RFC 3551 4.5.14 and 4.5.2).

@@ -3,9 +3,10 @@
 ghost use Rattle.payload_core_audio.specs.RedLaws.{PackedComesBack, ReadIsPackedAgain, ReadIsSpelled, SpelledIsRead};
 ghost use Rattle.payload_core_audio.specs.RedLaws.{WrapIsOne, WrapIsRead, WrapIsWithin};
 
-/// Just those packets are read whose bytes are the headers of blocks, the primary payload's header, the payloads
-/// of the blocks and the primary payload. What is packed comes back: the first 32 blocks that fit and the primary
-/// payload, types masked to seven bits. What is read, packed again, is the packet.
+/// A packet is read if and only if it consists of block headers, the primary header, the block
+/// payloads and the primary payload. What is packed reads back: the first 32 blocks that fit and
+/// the primary payload, with payload types cut to seven bits. Packing what was read gives the
+/// packet again.
 pub fn red_law()
     ensures spelled_is_read { SpelledIsRead }
     ensures read_is_spelled { ReadIsSpelled }
@@ -13,8 +14,8 @@ pub fn red_law()
     ensures packed_again { ReadIsPackedAgain }
 {}
 
-/// A payload whose length plus one is within the budget has one wrap, which is within the budget too, and whose
-/// primary payload it is.
+/// A payload whose length plus one is within the budget has exactly one wrapping; it is within the
+/// budget, and has this primary payload.
 pub fn red_wrap_law()
     ensures within { WrapIsWithin }
     ensures read { WrapIsRead }

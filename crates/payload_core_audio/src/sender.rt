@@ -36,7 +36,7 @@ impl Model for RedSender {
 }
 
 impl RedSender {
-    /// Whether distances rise strictly, and are 1 to 8, which `new` and `sync` ask.
+    /// Whether distances are strictly increasing, from 1 to 8, as `new` and `sync` require.
     pub fn are_distances(distances: &[u32]) -> bool
         ensures { IsTrue result ↔ AreDistances distances.now }
     {
@@ -107,7 +107,8 @@ impl RedSender {
         spell(alloc, &olds, pt, payload)
     }
 
-    /// What is sent for a payload, which stands in front of the history until `settle` or `forget`.
+    /// What is sent for a payload, which is put at the front of the history until `settle` or
+    /// `forget`.
     pub(crate) fn prepare(
         &mut self,
         pt: u8,

@@ -6,7 +6,7 @@ ghost use Rattle.std.specs.Prelude.{◌≡◌};
 
 use crate::sender::RedSender;
 use payload_core_base::{PacketError, PacketSink};
-use rtp_wire_extensions::ExtensionValues;
+use rtp_wire::ExtensionValues;
 
 /// Wraps each payload beside older ones, and hands it to an inner sink with its marker, time and values.
 ///

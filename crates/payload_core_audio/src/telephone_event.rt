@@ -7,7 +7,7 @@ ghost use Rattle.std.specs.Prelude.{◌≡◌, None};
 
 use crate::cut::whole;
 use payload_core_base::{CodecExtra, Depacketizer, PacketError, Packetizer, TelephoneEvent};
-use rtp_wire_values::ClockRate;
+use rtp_wire::ClockRate;
 use std::alloc::Global;
 use std::num::NonZeroU32;
 
@@ -46,8 +46,8 @@ impl Packetizer for TelephoneEventPacketizer {
     }
 }
 
-/// Hands out the first report of each telephone event packet, with the R bit clear, and tells it as an
-/// event (RFC 4733 2.3).
+/// Hands out the first report of each telephone event packet, with the R bit clear, and also
+/// reports it as an event (RFC 4733 2.3).
 #[derive(Clone, Copy, Debug, Drop)]
 pub struct TelephoneEventDepacketizer {
     clock_rate: NonZeroU32,

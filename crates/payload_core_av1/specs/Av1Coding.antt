@@ -12,52 +12,53 @@ use Rattle.payload_core_av1.specs.Av1Reading.{av1_format, count_w, has_n, has_y,
 use Rattle.payload_core_av1.specs.Av1Packing.{aggregation, av1_packing, back, count_field, front, is_cut, pack_av1}
 use Rattle.payload_core_av1.specs.Av1Packing.{packet_of, texts_of}
 
--- The spelling of a size below the limit spells it, and no other one is shorter.
+-- The spelling of a size below the limit decodes to that size, and no shorter spelling does.
 abbrev pub SpellingLaw : Type 0
 SpellingLaw = (n : ℕ) → (n < size_limit → Spells (spelling n) n)
     × ((bytes : List ℕ) → Spells bytes n → length (spelling n) ≤ length bytes)
 
--- What the aggregation header says is read from it.
+-- The aggregation header's fields can be read back from it.
 abbrev pub HeaderLaw : Type 0
 HeaderLaw = (z y n : Bool) (count : ℕ) → (has_z (aggregation z y n count) ≡ z)
     × (has_y (aggregation z y n count) ≡ y) × (count_w (aggregation z y n count) ≡ count_field count)
     × (has_n (aggregation z y n count) ≡ n)
 
--- A prefix and what is behind it are the texts.
+-- A prefix and the rest make up the texts again.
 abbrev pub PrefixLaw : Type 0
 PrefixLaw = (n : ℕ) (texts : List (List ℕ)) → (joined (front n texts) ≡ take n (joined texts))
     × (joined (back n texts) ≡ drop n (joined texts))
 
--- The packet of the longest prefix that fits: the packet of no longer one does.
+-- The longest prefix whose packet fits the limit: no longer one fits.
 pub record IsLongest (limit : ℕ) (z n : Bool) (texts : List (List ℕ)) (size : ℕ) : Type 0 where
   pub within : size ≤ length (joined texts)
   pub fits : length (packet_of z (is_cut size texts) n (front size texts)) ≤ limit
   pub no_longer : (m : ℕ) → size < m → m ≤ length (joined texts)
       → limit < length (packet_of z (is_cut m texts) n (front m texts))
 
--- Packets of texts, each of the longest prefix of what is left: Z and Y tell a cut in front and at the end, N stands
--- on the first.
+-- Packets, each with the longest prefix of the remaining texts: Z and Y mark a cut at the start and at the end, N is on
+-- the first packet.
 abbrev pub ArePackets : ℕ → Bool → Bool → List (List ℕ) → List (List ℕ) → Type 0
 ArePackets limit z n texts [] = texts ≡ []
 ArePackets limit z n texts (p ∷ ps) = (size : ℕ) × IsLongest limit z n texts size
     × (p ≡ packet_of z (is_cut size texts) n (front size texts)) × (2 ≤ length p)
     × ArePackets limit (is_cut size texts) false (back size texts) ps
 
--- A sample's packets are those of its kept units, N standing for a sequence header; at a limit below 2 there is none.
+-- A sample's packets are those of its kept OBUs, with N if these start with a sequence header; at a limit below 2 there
+-- are no packets.
 abbrev pub PacketsLaw : Type 0
 PacketsLaw = (s : Sender) (limit : ℕ) (sample : List ℕ) (sent : Sent) (os : List Obu) → pack_av1 s limit sample
     ≡ Ok sent → kept_of sample ≡ Some os
     → (2 ≤ limit → ArePackets limit false (begins_sequence os) (texts_of os) sent.packets)
     × (limit < 2 → sent.packets ≡ [])
 
--- A sample is refused just where it isn't units one behind the other.
+-- A sample is refused if and only if it isn't a sequence of OBUs.
 abbrev pub RefusedLaw : Type 0
 RefusedLaw = (s : Sender) (limit : ℕ) (sample : List ℕ)
     → (obus_of sample ≡ None → pack_av1 s limit sample ≡ Err ErrAv1CorruptedPacket)
     × ((e : PacketError) → pack_av1 s limit sample ≡ Err e → obus_of sample ≡ None)
 
--- A sample with a byte that is units one behind the other is well-formed. Its kept units are the parts of one unit,
--- unless there are none or the limit leaves no room.
+-- A nonempty sequence of OBUs is a well-formed sample. Its kept OBUs are the parts of one unit, unless there are none
+-- or the limit leaves no room.
 abbrev pub IsSample : List ℕ → Type 0
 IsSample sample = (0 < length sample) × ((os : List Obu) × AreObus sample os)
 

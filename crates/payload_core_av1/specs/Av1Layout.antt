@@ -1,4 +1,4 @@
--- AV1 packets as their elements, one behind the other (RTP payload format for AV1, 4.4 and 4.5).
+-- AV1 packets as sequences of OBU elements (RTP payload format for AV1, 4.4 and 4.5).
 use Rattle.std.specs.Prelude.{◌≡◌, ℕ, zero, suc, ◌<◌, ◌||◌, Bool, true, false, List, [], ◌∷◌, ◌++◌, length, Option}
 use Rattle.std.specs.Prelude.{Some, None, Ok, Err}
 use Rattle.payload_core_base.specs.Format.{Fragment, Reading}
@@ -12,29 +12,29 @@ use Rattle.payload_core_av1.specs.Obus.{with_its_size}
 use Rattle.payload_core_av1.specs.Av1Reading.{begun, complete, count_w, has_n, has_y, has_z, opened, read_av1}
 use Rattle.payload_core_av1.specs.Av1Reading.{was_keyframe}
 
--- A part behind its size, and a rest behind it.
+-- A size, a part of that size, then the rest.
 pub record IsSized (text part rest : List ℕ) : Type 0 where
   pub size : List ℕ
   pub laid_out : text ≡ size ++ (part ++ rest)
   pub spells : Spells size (length part)
 
--- Elements, each behind its size.
+-- OBU elements, each preceded by its size.
 abbrev pub AreSized : List ℕ → List (List ℕ) → Type 0
 AreSized text [] = text ≡ []
 AreSized text (e ∷ es) = (rest : List ℕ) × IsSized text e rest × AreSized rest es
 
--- Elements, each but the last behind its size.
+-- OBU elements, each preceded by its size except the last.
 abbrev pub AreSizedButLast : List ℕ → List (List ℕ) → Type 0
 AreSizedButLast text [] = ⊥
 AreSizedButLast text (e ∷ []) = text ≡ e
 AreSizedButLast text (e ∷ f ∷ es) = (rest : List ℕ) × IsSized text e rest × AreSizedButLast rest (f ∷ es)
 
--- A body of these elements: with W = 0 each has its size, else there are W and the last has none.
+-- A body with these elements: with W = 0 each has its size; otherwise there are W of them, and the last has no size.
 abbrev pub IsBody : ℕ → List ℕ → List (List ℕ) → Type 0
 IsBody zero body es = AreSized body es
 IsBody (suc w) body es = (length es ≡ suc w) × AreSizedButLast body es
 
--- With S a size stands in front of the payload.
+-- With S, the payload is preceded by its size.
 abbrev pub IsSizeOf : Bool → List ℕ → List ℕ → Type 0
 IsSizeOf true size payload = Spells size (length payload)
 IsSizeOf false size payload = size ≡ []
@@ -45,7 +45,7 @@ HasExtensionIf true (Some byte) = Unit {0}
 HasExtensionIf false None = Unit {0}
 HasExtensionIf false (Some byte) = ⊥
 
--- A text that is a unit: header, with X an extension byte, with S the size, and the payload.
+-- The text of an OBU: the header, an extension byte if X is set, the size if S is set, and the payload.
 pub record IsObu (text : List ℕ) (o : Obu) : Type 0 where
   pub size : List ℕ
   pub laid_out : text ≡ o.header ∷ (extension_bytes o.extension ++ (size ++ o.payload))
@@ -53,7 +53,7 @@ pub record IsObu (text : List ℕ) (o : Obu) : Type 0 where
   pub is_size : IsSizeOf (has_size o.header) size o.payload
   pub is_small : length o.payload < payload_limit
 
--- What an element gives: nothing where it is empty or a unit that isn't kept, else the unit with its size.
+-- What an element gives: nothing if it is empty or an OBU that isn't kept; otherwise the OBU with its size.
 abbrev pub GivenBy : Bool → Obu → List ℕ → Type 0
 GivenBy true o bytes = bytes ≡ with_its_size o
 GivenBy false o bytes = bytes ≡ []
@@ -62,13 +62,13 @@ abbrev pub IsGiven : List ℕ → List ℕ → Type 0
 IsGiven [] bytes = bytes ≡ []
 IsGiven (b ∷ bs) bytes = (o : Obu) × IsObu (b ∷ bs) o × GivenBy (is_kept o) o bytes
 
--- What elements give, one behind the other.
+-- What the elements give, concatenated.
 abbrev pub AreGiven : List (List ℕ) → List ℕ → Type 0
 AreGiven [] bytes = bytes ≡ []
 AreGiven (e ∷ es) bytes = (front : List ℕ) × (behind : List ℕ) × (bytes ≡ front ++ behind) × IsGiven e front
     × AreGiven es behind
 
--- A packet, what it gives, and the fragment that is open behind it.
+-- A packet, what it gives, and the fragment open after it.
 pub record IsAv1Packet (fragment : Fragment) (packet written : List ℕ) (after : Fragment) (keyframe : Bool) : Type 0
   where
     pub first : ℕ
@@ -82,14 +82,14 @@ pub record IsAv1Packet (fragment : Fragment) (packet written : List ℕ) (after 
         (begun (has_z first) fragment elements).elements
     pub is_keyframe : keyframe ≡ has_n first
 
--- Every such packet is read so.
+-- Every packet with this layout is read this way.
 abbrev pub LayoutLaw : Type 0
 LayoutLaw = (fragment after : Fragment) (extra : CodecExtra) (packet written : List ℕ) (keyframe : Bool)
     → IsAv1Packet fragment packet written after keyframe
     → read_av1 fragment extra packet ≡ Ok (record
     { written = written; extra = Av1 (record { is_keyframe = was_keyframe extra || keyframe }); fragment = after })
 
--- A reading is that of a packet that is laid out so.
+-- The reading is that of a packet with this layout.
 pub record IsReadAs (fragment : Fragment) (extra : CodecExtra) (packet : List ℕ) (r : Reading) : Type 0 where
   pub keyframe : Bool
   pub laid : IsAv1Packet fragment packet r.written r.fragment keyframe
@@ -100,7 +100,7 @@ abbrev pub ReadLaw : Type 0
 ReadLaw = (fragment : Fragment) (extra : CodecExtra) (packet : List ℕ) (r : Reading) → read_av1 fragment extra packet
     ≡ Ok r → IsReadAs fragment extra packet r
 
--- A packet of fewer than two bytes is refused as short, and every other one that is refused as corrupted.
+-- A packet of fewer than two bytes is refused as too short; any other packet that is refused is refused as corrupted.
 abbrev pub ShortLaw : Type 0
 ShortLaw = (fragment : Fragment) (extra : CodecExtra) (packet : List ℕ)
     → (length packet < 2 → read_av1 fragment extra packet ≡ Err ErrShortPacket)

@@ -31,29 +31,28 @@ abbrev pub and_behind : Option Cut → (List ℕ → Option (List (List ℕ))) �
 and_behind None others = None
 and_behind (Some cut) others = in_front cut.part (others cut.rest)
 
--- So many elements behind their sizes, and the rest as the last one.
+-- n elements with size fields, then the rest as the last element.
 abbrev pub counted_elements : ℕ → List ℕ → Option (List (List ℕ))
 counted_elements zero bytes = Some (bytes ∷ [])
 counted_elements (suc n) bytes = and_behind (sized_part bytes) (λ rest. counted_elements n rest)
 
--- Elements behind their sizes up to the end, at most so many.
+-- Elements with size fields up to the end, at most n.
 abbrev pub sized_elements : ℕ → List ℕ → Option (List (List ℕ))
 sized_elements n [] = Some []
 sized_elements zero (b ∷ bs) = None
 sized_elements (suc n) (b ∷ bs) = and_behind (sized_part (b ∷ bs)) (λ rest. sized_elements n rest)
 
--- W elements, of which the last has no size; with W = 0 any number, each behind its size.
+-- W elements, the last one without a size field; with W = 0 any number, each with a size field.
 abbrev pub elements_of : ℕ → List ℕ → Option (List (List ℕ))
 elements_of w body = if w == 0 then sized_elements (length body) body else counted_elements (w - 1) body
 
--- What the first element is to an open fragment: the elements that are then there, and the fragment that stays open
--- beside them.
+-- What the first element does to the open fragment: the elements there are then, and the fragment that stays open.
 pub record Begun : Type 0 where
   pub open_still : Fragment
   pub elements : List (List ℕ)
 
--- With Z the first element goes on with the open fragment; it is passed over where none is open or where it is empty.
--- Without Z an open fragment is given up.
+-- With Z, the first element continues the open fragment; it is dropped if no fragment is open, and has no effect if it
+-- is empty. Without Z, an open fragment is dropped.
 abbrev pub begun : Bool → Fragment → List (List ℕ) → Begun
 begun false fragment elements = record { open_still = None; elements = elements }
 begun true fragment [] = record { open_still = None; elements = [] }
@@ -75,12 +74,12 @@ opened_by open_still (b ∷ bs) = Some (b ∷ bs)
 abbrev pub opened : Bool → Fragment → List (List ℕ) → Fragment
 opened y open_still es = if y then opened_by open_still (last_of es) else open_still
 
--- What a complete element gives: the unit that it is with its size, if that is kept.
+-- What a complete element gives: its OBU with a size field, if that is kept.
 abbrev pub given_by : Option Obu → Option (List ℕ)
 given_by None = None
 given_by (Some o) = Some (if is_kept o then with_its_size o else [])
 
--- An empty element is passed over.
+-- An empty element gives nothing.
 abbrev pub given : List ℕ → Option (List ℕ)
 given [] = Some []
 given (b ∷ bs) = given_by (whole_obu (b ∷ bs))
@@ -113,18 +112,18 @@ read_elements first fragment extra None = Err ErrAv1CorruptedPacket
 read_elements first fragment extra (Some es) =
     read_begun (has_y first) (was_keyframe extra || has_n first) (begun (has_z first) fragment es)
 
--- A packet has its aggregation header and a byte behind it.
+-- A packet is an aggregation header and at least one more byte.
 abbrev pub read_av1 : Fragment → CodecExtra → List ℕ → Result Reading PacketError
 read_av1 fragment extra [] = Err ErrShortPacket
 read_av1 fragment extra (first ∷ []) = Err ErrShortPacket
 read_av1 fragment extra (first ∷ b ∷ bs) = read_elements first fragment extra (elements_of (count_w first) (b ∷ bs))
 
--- A packet without Z is a head, and the marker makes a tail.
+-- A packet without Z is a head; a packet with the marker bit is a tail.
 abbrev pub is_av1_head : List ℕ → Bool
 is_av1_head [] = false
 is_av1_head (first ∷ rest) = not (has_z first)
 
--- Whether a packet has N, which stands on the first packet of a coded video sequence.
+-- Whether a packet has N, which marks the first packet of a coded video sequence.
 abbrev pub is_av1_keyframe : List ℕ → Bool
 is_av1_keyframe [] = false
 is_av1_keyframe (first ∷ rest) = has_n first

@@ -1,9 +1,9 @@
--- How the code of the reader holds what it reads.
+-- How the reader's code stores what it reads.
 use Rattle.std.specs.Prelude.{◌≡◌, ℕ, Bool, List, ◌++◌, length, take, Option, Some, None}
 use Rattle.payload_core_base.specs.Format.{Fragment}
 use Rattle.payload_core_av1.specs.Av1Reading.{Begun, all_given, complete, opened}
 
--- These bytes were put behind the old ones.
+-- These bytes were appended to the old ones.
 abbrev pub Gathers : List ℕ → Option (List ℕ) → List ℕ → Type 0
 Gathers old None new = ⊥
 Gathers old (Some bytes) new = new ≡ old ++ bytes
@@ -13,16 +13,16 @@ abbrev pub all_in_front : List (List ℕ) → Option (List (List ℕ)) → Optio
 all_in_front es None = None
 all_in_front es (Some others) = Some (es ++ others)
 
--- The first fragment, where there is one, else the second.
+-- The first fragment if there is one, otherwise the second.
 abbrev pub or_else : Option (List ℕ) → Option (List ℕ) → Option (List ℕ)
 or_else None other = other
 or_else (Some bytes) other = Some bytes
 
--- The old bytes stand in front of the new ones.
+-- The new bytes start with the old ones.
 abbrev pub Keeps : List ℕ → List ℕ → Type 0
 Keeps old new = take (length old) new ≡ old
 
--- Elements with which an open fragment is given up, and elements beside which it stays.
+-- Elements with which no fragment stays open, and elements beside which it does.
 abbrev pub fresh : List (List ℕ) → Begun
 fresh es = record { open_still = None; elements = es }
 

@@ -1,9 +1,9 @@
--- Sizes as leb128 spells them (AV1 bitstream specification 4.10.5): seven bits a byte, the lowest first, and the top
--- bit in each byte but the last. At most eight bytes.
+-- Sizes in leb128 (AV1 bitstream specification 4.10.5): seven bits a byte, lowest first, with the top bit set in all
+-- bytes but the last; at most eight bytes.
 use Rattle.std.specs.Prelude.{◌≡◌, ℕ, zero, suc, ◌+◌, ◌*◌, ◌/◌, ◌%◌, ◌<◌, ◌≤◌, List, [], ◌∷◌, length, take, drop}
 use Rattle.std.specs.Prelude.{nat_lt, nat_le, Option, Some, None, if◌then◌else◌}
 
--- Eight bytes spell the sizes below this, 2^56.
+-- Eight bytes can spell sizes below 2^56.
 abbrev pub size_limit : ℕ
 size_limit = 72057594037927936
 
@@ -12,7 +12,7 @@ abbrev pub spelled : List ℕ → ℕ
 spelled [] = 0
 spelled (b ∷ bs) = b % 128 + 128 * spelled bs
 
--- The last byte alone has no top bit.
+-- Every byte except the last has the top bit set.
 abbrev pub HasTopBits : List ℕ → Type 0
 HasTopBits [] = ⊥
 HasTopBits (b ∷ []) = b < 128
@@ -43,7 +43,7 @@ size_within (suc k) (b ∷ bs) = if nat_lt b 128 then Some (record { size = b; r
 unfoldable pub size_in : List ℕ → Option Sized
 size_in bytes = size_within 8 bytes
 
--- The spelling without needless bytes, of at most so many bytes and one.
+-- The shortest spelling, in at most k + 1 bytes.
 abbrev pub spelling_within : ℕ → ℕ → List ℕ
 spelling_within zero n = n ∷ []
 spelling_within (suc k) n = if nat_lt n 128 then n ∷ [] else (128 + n % 128) ∷ spelling_within k (n / 128)
@@ -62,6 +62,6 @@ cut_by None = None
 cut_by (Some s) = if nat_le s.size (length s.rest)
     then Some (record { part = take s.size s.rest; rest = drop s.size s.rest }) else None
 
--- The part of a text that stands behind its size, if all of it is there.
+-- The part of a text that its size field announces, if all of it is there.
 abbrev pub sized_part : List ℕ → Option Cut
 sized_part bytes = cut_by (size_in bytes)

@@ -53,7 +53,7 @@ abbrev pub obu_of : ℕ → Option ℕ → Option Cut → Option ObuCut
 obu_of header extension None = None
 obu_of header extension (Some cut) = Some (obu_cut header extension cut.part cut.rest)
 
--- The size of a unit without S, and that of its payload, are spelled in eight bytes.
+-- The limit for payload sizes, so that the sizes of an OBU without S and of its payload both fit in eight bytes.
 abbrev pub payload_limit : ℕ
 payload_limit = 72057594037927934
 
@@ -61,7 +61,7 @@ abbrev pub if_small : Option Cut → Option Cut
 if_small None = None
 if_small (Some cut) = if nat_lt (length cut.part) payload_limit then Some cut else None
 
--- With S a payload has its size in front, without S it goes to the end.
+-- With S, the payload has a size field; without S, it extends to the end.
 abbrev pub payload_in : Bool → List ℕ → Option Cut
 payload_in true bytes = if_small (sized_part bytes)
 payload_in false bytes = if_small (Some (record { part = bytes; rest = [] }))
@@ -83,10 +83,10 @@ abbrev pub if_whole : Option ObuCut → Option Obu
 if_whole None = None
 if_whole (Some cut) = if_at_end cut.obu cut.rest
 
--- The unit that a text is; with S it carries just its own size.
+-- The OBU that the text is; with S its size must be that of the whole rest.
 abbrev pub whole_obu : List ℕ → Option Obu
 whole_obu bytes = if_whole (first_obu bytes)
 
--- Temporal delimiters, tile lists and padding stay behind.
+-- Temporal delimiters, tile lists and padding are dropped.
 abbrev pub is_kept : Obu → Bool
 is_kept o = not ((type_of o.header == 2) || (type_of o.header == 8) || (type_of o.header == 15))

@@ -13,7 +13,7 @@ use payload_core_base::PacketError;
 use std::alloc::{AllocError, Global};
 use std::mem;
 
-/// So many elements behind their sizes, and the rest as the last one.
+/// n elements with size fields, then the rest as the last element.
 fn counted_elements(alloc: Global, count: u8, body: &[u8]) -> Result<Vec<&[u8]>, PacketError>
     ensures value { IfOk result (λ es. counted_elements count body.now ≡ Some (map (λ e. e.now) es.items)) }
     ensures refused { IfErr result (λ e. e ≢ PacketError.Memory → (e ≡ PacketError.ErrAv1CorruptedPacket)

@@ -26,7 +26,7 @@ pub struct Av1Depacketizer {
     spare: Vec<u8>,
 }
 
-/// Written by hand so that crates that drop this type need no proof about its fields.
+/// Written by hand, so that crates that drop this type need no proof about its fields.
 impl Drop for Av1Depacketizer {
     fn drop(self) {
         let Av1Depacketizer {
@@ -37,7 +37,7 @@ impl Drop for Av1Depacketizer {
     }
 }
 
-/// Whether a packet begins a coded video sequence: whether it has N.
+/// Whether a packet begins a coded video sequence: it has N.
 pub fn detect_av1_keyframe(packet: &[u8]) -> bool
     ensures { result ≡ is_av1_keyframe packet.now }
 {
@@ -48,7 +48,7 @@ pub fn detect_av1_keyframe(packet: &[u8]) -> bool
 }
 
 impl Av1Depacketizer {
-    /// A depacketizer without an open fragment, which takes memory from `alloc` for the one that it keeps.
+    /// A depacketizer with no open fragment; it allocates from `alloc`.
     pub fn new(alloc: Global) -> Self
         ensures { option_map (λ v. v.items) result.fragment ≡ None }
     {
@@ -59,7 +59,7 @@ impl Av1Depacketizer {
         }
     }
 
-    /// Another fragment is open, or none; the memory of the one before stays for a later one.
+    /// Replaces the open fragment (maybe by none); the old one's memory is kept for a later one.
     fn reopen(&mut self, opened: Option<Vec<u8>>)
         ensures { option_map (λ v. v.items) self.new.fragment ≡ option_map (λ v. v.items) opened }
     {
@@ -69,7 +69,7 @@ impl Av1Depacketizer {
         }
     }
 
-    /// Takes elements, with which an open fragment is given up.
+    /// Takes elements, dropping an open fragment.
     fn take_fresh(
         &mut self,
         opens_last: bool,
@@ -91,7 +91,8 @@ impl Av1Depacketizer {
         Ok(())
     }
 
-    /// Takes elements beside the open fragment, which stays unless the last one opens another.
+    /// Takes elements without touching the open fragment, which stays unless the last one opens
+    /// another.
     fn take_beside(
         &mut self,
         opens_last: bool,
@@ -149,8 +150,9 @@ impl Av1Depacketizer {
         Ok(())
     }
 
-    /// Takes a packet's elements, of which the first goes on with the open fragment. The others are looked at before
-    /// it is written, so that a packet that is refused costs no copy of what is open.
+    /// Takes a packet's elements, the first of which continues the open fragment. The others are
+    /// checked before it is written, so that a packet that is refused costs no copy of the
+    /// fragment.
     fn take_joined(
         &mut self,
         opens_last: bool,

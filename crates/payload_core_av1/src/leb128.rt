@@ -27,8 +27,8 @@ fn size_within(most: u8, text: &[u8]) -> Option<(usize, &[u8])>
     Some((*first as usize % 128 + 128 * size, rest))
 }
 
-/// The part of a text that stands in front behind its size, and what stands behind it, if all of the part
-/// is there. The size has at most eight bytes.
+/// The part at the front of a text, after its size, and what follows it, if all of the part is
+/// there. The size has at most eight bytes.
 #[tactic(auto, unfolding(crate::specs::Leb128::size_in))]
 pub fn sized_part(text: &[u8]) -> Option<(&[u8], &[u8])>
     ensures value { MatchOption result (sized_part text.now ≡ None)

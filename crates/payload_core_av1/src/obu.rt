@@ -129,7 +129,7 @@ fn push_header(header: u8, extension: Option<u8>, out: &mut Vec<u8>) -> Result<(
     Ok(())
 }
 
-/// The unit that a text is; with S it carries just its own size.
+/// The OBU that the text is; with S its size must be that of the whole rest.
 pub fn whole_obu(text: &[u8]) -> Option<Obu<'_>>
     ensures value { MatchOption result (whole_obu text.now ≡ None)
         (λ o. whole_obu text.now ≡ Some (obu o.header o.extension o.payload.now)) }
@@ -140,7 +140,7 @@ pub fn whole_obu(text: &[u8]) -> Option<Obu<'_>>
 }
 
 impl Obu<'_> {
-    /// Whether the unit is sent: temporal delimiters, tile lists and padding stay behind.
+    /// Whether the OBU is sent: temporal delimiters, tile lists and padding are not.
     pub fn is_kept(&self) -> bool
         ensures { result ≡ is_kept (obu self.now.header self.now.extension self.now.payload.now) }
     {

@@ -6,7 +6,7 @@ use Rattle.std.proofs.lemmas.List.{get_or-map, length-drop, take_more}
 use Rattle.payload_core_base.specs.Outgoing.{Outgoing, TakesAll, all_outgoing, outgoing}
 use Rattle.payload_core_base.specs.Packing.{MarkedPacket, Packing, is_none_left, marked}
 use Rattle.payload_core_base.specs.Sending.{outgoing_from}
-use Rattle.rtp_wire_extensions.specs.declared.values.ExtensionValues.{ExtensionValues}
+use Rattle.rtp_wire.specs.declared.values.ExtensionValues.{ExtensionValues}
 
 -- one payload more
 pub takes_more : {S : Type 0} (takes : S → Outgoing → S → Type 0) (old : S) (os : List Outgoing) (o : Outgoing)

@@ -1,6 +1,6 @@
 -- Bytes of payload headers as they are read.
 use Rattle.std.specs.Prelude.{ℕ, ◌/◌, ◌%◌, ◌==◌, Bool}
 
--- The bit of this weight.
+-- The bit with this weight.
 abbrev pub has_bit : ℕ → ℕ → Bool
 has_bit weight byte = byte / weight % 2 == 1

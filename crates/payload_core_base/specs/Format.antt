@@ -4,7 +4,7 @@ use Rattle.payload_core_base.specs.declared.error.PacketError.{PacketError}
 use Rattle.payload_core_base.specs.declared.error.PacketError.TheVariants.{Memory}
 use Rattle.payload_core_base.specs.declared.extra.CodecExtra.{CodecExtra}
 
--- The bytes of a unit or part that has begun and has not ended, if there is one.
+-- The bytes of a unit, or part of one, that has started but not ended, if there is one.
 abbrev pub Fragment : Type 0
 Fragment = Option (List ℕ)
 
@@ -14,14 +14,14 @@ pub record Reading : Type 0 where
   pub extra : CodecExtra
   pub fragment : Fragment
 
--- A payload format as a receiver sees it: which packets are heads, which are tails by marker and bytes, and what a
--- packet gives or why it is refused.
+-- A payload format as a receiver sees it: which packets are heads; which are tails, by marker bit and bytes; and what a
+-- packet gives, or why it is refused.
 pub record Format : Type 0 where
   pub head : List ℕ → Bool
   pub tail : Bool → List ℕ → Bool
   pub read : Fragment → CodecExtra → List ℕ → Result Reading PacketError
 
--- The reading is this, and its bytes stand behind those of the old output.
+-- The packet is read as this, and its bytes are appended to the output.
 abbrev pub Gives : Result Reading PacketError → List ℕ → List ℕ → CodecExtra → Fragment → Type 0
 Gives (Ok r) old new extra fragment = (new ≡ old ++ r.written) × (extra ≡ r.extra) × (fragment ≡ r.fragment)
 Gives (Err e) old new extra fragment = ⊥
@@ -30,19 +30,19 @@ Gives (Err e) old new extra fragment = ⊥
 abbrev pub Refuses : Result Reading PacketError → PacketError → Type 0
 Refuses r e = e ≢ Memory → r ≡ Err e
 
--- What packets give in their order, up to the first that is refused: the bytes, and the extra, the open fragment and
--- the fault after them.
+-- What packets give in order, up to the first one refused: the bytes, then the codec data, the open fragment and the
+-- fault after them.
 pub record Run : Type 0 where
   pub written : List ℕ
   pub extra : CodecExtra
   pub fragment : Fragment
   pub fault : Option PacketError
 
--- A run with these bytes in front.
+-- The run with these bytes prepended.
 abbrev pub run_behind : List ℕ → Run → Run
 run_behind before r = record { written = before ++ r.written; extra = r.extra; fragment = r.fragment; fault = r.fault }
 
--- What comes after one packet's reading, from the fragment and the extra before it.
+-- The run that starts with one packet's reading.
 abbrev pub run_after : Fragment → CodecExtra → Result Reading PacketError → (Fragment → CodecExtra → Run) → Run
 run_after fragment extra (Ok r) rest = run_behind r.written (rest r.fragment r.extra)
 run_after fragment extra (Err e) rest = record { written = []; extra = extra; fragment = fragment; fault = Some e }

@@ -1,4 +1,4 @@
--- Frames that are sent under picture ids of 15 bits (RFC 7741 4.2, RFC 9628 4.2).
+-- Frames numbered by 15-bit picture ids (RFC 7741 4.2, RFC 9628 4.2).
 use Rattle.std.specs.Prelude.{ℕ, ◌+◌, nat_lt, if◌then◌else◌}
 use Rattle.payload_core_base.specs.Packing.{Sender}
 

@@ -1,6 +1,4 @@
 pub mod Bytes
-pub mod CodecNames
-pub mod Codecs
 pub mod Format
 pub mod Frames
 pub mod Law

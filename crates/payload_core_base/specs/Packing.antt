@@ -3,8 +3,8 @@ use Rattle.std.specs.Prelude.{◌≡◌, ◌≢◌, ℕ, Bool, true, false, List
 use Rattle.payload_core_base.specs.declared.error.PacketError.{PacketError}
 use Rattle.payload_core_base.specs.declared.error.PacketError.TheVariants.{Memory}
 
--- What a packetizer has between samples: a running number (the next picture id, or a count of units), and a place for
--- each kind of unit that may wait for the next sample.
+-- A packetizer's state between samples: a counter (the next picture id, or a count of units), and a slot for each kind
+-- of unit that may be held back for the next sample.
 pub record Sender : Type 0 where
   pub number : ℕ
   pub waiting : List (Option (List ℕ))
@@ -14,8 +14,8 @@ pub record Sent : Type 0 where
   pub packets : List (List ℕ)
   pub sender : Sender
 
--- A payload format as a sender sees it: the packets of a sample at a limit or why it is refused, and the marker of a
--- packet that is a sample's last or isn't.
+-- A payload format as a sender sees it: the packets of a sample at a limit, or why it is refused; and the marker bit of
+-- a packet, given whether it is the sample's last.
 pub record Packing : Type 0 where
   pub pack : Sender → ℕ → List ℕ → Result Sent PacketError
   pub marks : List ℕ → Bool → Bool

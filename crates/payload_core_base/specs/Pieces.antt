@@ -1,13 +1,13 @@
--- Samples that are cut by length alone.
+-- Samples cut by length alone.
 use Rattle.std.specs.Prelude.{ℕ, ◌+◌, ◌-◌, ◌*◌, ◌/◌, List, map, length, take, drop}
 use Rattle.std.specs.List.{range_with_len}
 
--- A text of these many bytes has so many pieces of the limit's size, the last of which may be short: a quotient that
--- is rounded up. At limit 0 there are none.
+-- A text has this many pieces of the limit's size, the last of which may be shorter: the quotient rounded up. None at
+-- limit 0.
 abbrev pub piece_count : ℕ → ℕ → ℕ
 piece_count size limit = (size + limit - 1) / limit
 
--- The piece at a place: what stands behind so many limits, and at most a limit of it.
+-- The piece with this index: at most `limit` bytes after the pieces before it.
 abbrev pub piece_at : ℕ → List ℕ → ℕ → List ℕ
 piece_at limit text k = take limit (drop (k * limit) text)
 

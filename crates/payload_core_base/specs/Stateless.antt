@@ -1,9 +1,9 @@
--- What payload formats have in common that keep nothing between samples.
+-- What payload formats without state between samples share.
 use Rattle.std.specs.Prelude.{ℕ, Bool, false, List, [], ◌∷◌, Result, Ok}
 use Rattle.payload_core_base.specs.Packing.{Sender, Sent}
 use Rattle.payload_core_base.specs.declared.error.PacketError.{PacketError}
 
--- What a packetizer has that keeps nothing between samples.
+-- The state of a packetizer that keeps nothing between samples.
 abbrev pub idle_sender : Sender
 idle_sender = record { number = 0; waiting = [] }
 
@@ -11,7 +11,7 @@ idle_sender = record { number = 0; waiting = [] }
 abbrev pub sent_as : Sender → List (List ℕ) → Result Sent PacketError
 sent_as sender packets = Ok (record { packets = packets; sender = sender })
 
--- Every state is reached.
+-- Any state can be reached.
 abbrev pub AnySender : Sender → Type 0
 AnySender sender = Unit {0}
 
@@ -19,7 +19,7 @@ AnySender sender = Unit {0}
 abbrev pub stays_idle : Sender → ℕ → List ℕ → Sender
 stays_idle sender limit sample = sender
 
--- No packet has a marker.
+-- No packet has the marker bit.
 abbrev pub no_marker : List ℕ → Bool → Bool
 no_marker packet last = false
 

@@ -4,6 +4,6 @@ use Rattle.payload_core_base.specs.declared.telephone_event.TelephoneEvent.{Tele
 use Rattle.payload_core_base.specs.declared.telephone_event.TelephoneEvents.{TelephoneEvents}
 use Rattle.payload_core_base.specs.Telephone.{events_of}
 
--- The reports that are still to come.
+-- The reports the iterator has yet to yield.
 abbrev pub events_left : TelephoneEvents → List TelephoneEvent
 events_left events = events_of (non_zero_u32_get events.clock_rate) events.rest.now

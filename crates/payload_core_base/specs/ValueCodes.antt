@@ -1,8 +1,8 @@
--- The codes by which the logic stores values of header extensions: each record as the tuple of its fields.
+-- How the logic encodes header extension values: each record as the tuple of its fields.
 use Rattle.std.specs.Prelude.{ℕ, ℤ, Bool, List, Option, refl}
 use Rattle.std.specs.Coded.{Coded, code_by, coded×, coded_ℕ, coded_ℤ, coded_bool, coded_list, coded_option}
-use Rattle.rtp_wire_extensions.specs.declared.values.AbsCaptureTime.{AbsCaptureTime}
-use Rattle.rtp_wire_extensions.specs.declared.values.ExtensionValues.{ExtensionValues}
+use Rattle.rtp_wire.specs.declared.values.AbsCaptureTime.{AbsCaptureTime}
+use Rattle.rtp_wire.specs.declared.values.ExtensionValues.{ExtensionValues}
 
 abbrev pub capture_code : Coded AbsCaptureTime
 capture_code = code_by (ℕ × Option ℤ) (coded× coded_ℕ (coded_option coded_ℤ)) (λ c. (c.capture_time, c.clock_offset))

@@ -14,14 +14,14 @@ pub fn has_bit(byte: u8, weight: u8) -> bool
     byte / weight % 2 == 1
 }
 
-/// The byte at a place, 0 behind the end.
+/// The byte at an index, 0 past the end.
 pub fn byte_at(text: &[u8], place: usize) -> u8
     ensures { result ≡ slice_index text.now place }
 {
     text.get(place).copied().unwrap_or(0)
 }
 
-/// What stands behind so many bytes, nothing behind the end.
+/// The bytes after the first `size`, nothing past the end.
 pub fn behind(text: &[u8], size: usize) -> &[u8]
     ensures { result.now ≡ drop size text.now }
 {

@@ -17,7 +17,7 @@ pub trait Depacketizer {
     /// The fragment that is open.
     ghost fragment: { Self → Fragment };
 
-    /// How many bytes packets of this size may give: not known of any format here.
+    /// A hint of how many bytes packets of this size may give; no format here knows.
     fn out_size_hint(&self, _packets_size: usize) -> Option<usize>
         ensures { result ≡ None }
     {
@@ -43,11 +43,11 @@ pub trait Depacketizer {
         ensures unchanged { OnErr result ((fragment self.new ≡ fragment self.old) × (out.new.items ≡ out.old.items)
             × (extra.new ≡ extra.old)) };
 
-    /// Whether a unit may begin with this packet.
+    /// Whether a unit can begin with this packet.
     fn is_partition_head(&self, packet: &[u8]) -> bool
         ensures { result ≡ (format self.now).head packet.now };
 
-    /// Whether a unit ends with this packet, which came with this marker.
+    /// Whether a unit ends with this packet, given its marker bit.
     fn is_partition_tail(&self, marker: bool, packet: &[u8]) -> bool
         ensures { result ≡ (format self.now).tail marker packet.now };
 }

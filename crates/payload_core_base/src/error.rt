@@ -6,10 +6,10 @@ use thiserror::Error;
 /// Why a sample can't be packed, or a packet can't be read.
 #[derive(Clone, Copy, Debug, PartialEq, Eq, Drop, Error)]
 pub enum PacketError {
-    /// The packet has fewer bytes than its format needs.
+    /// The packet is too short for its format.
     #[error("the packet is too short")]
     ErrShortPacket,
-    /// The sample can't be cut, and its one packet passes the limit.
+    /// The sample can't be cut, and its single packet exceeds the limit.
     #[error("the payload is larger than the limit")]
     ErrPayloadTooLarge,
     /// A VP9 descriptor lists a fourth reference (RFC 9628 4.2).
@@ -21,10 +21,11 @@ pub enum PacketError {
     /// An H.266 packet breaks its format (RFC 9328 4.3).
     #[error("corrupted H.266 packet")]
     ErrH266CorruptedPacket,
-    /// An aggregated unit has this size, and these many bytes are left (RFC 6184 5.7.1).
+    /// An aggregated unit has this size, but only this many bytes are left (RFC 6184 5.7.1).
     #[error("an aggregated unit of {0} bytes where {1} are left")]
     StapASizeLargerThanBuffer(usize, usize),
-    /// No packet of this unit type is read (RFC 6184 5.2, RFC 7798 4.2, RFC 9328 4.2).
+    /// Packets with this NAL unit type are not supported (RFC 6184 5.2, RFC 7798 4.2, RFC 9328
+    /// 4.2).
     #[error("unit type {0} is not handled")]
     NaluTypeIsNotHandled(u8),
     /// A VP8 descriptor breaks its format (RFC 7741 4.2).

@@ -4,8 +4,6 @@
 
 mod boxed;
 mod bytes;
-mod codec;
-mod codec_names;
 mod depacketizer;
 mod error;
 mod extra;
@@ -16,8 +14,6 @@ mod sink;
 mod telephone_event;
 
 pub use bytes::{behind, byte_at, has_bit};
-pub use codec::{Codec, MediaKind};
-pub use codec_names::CODECS;
 pub use depacketizer::Depacketizer;
 pub use error::PacketError;
 pub use extra::{

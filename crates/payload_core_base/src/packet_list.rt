@@ -4,15 +4,15 @@ ghost use Rattle.std.specs.Prelude.{◌≡◌, [], map};
 
 use crate::error::PacketError;
 use crate::sink::PacketSink;
-use rtp_wire_extensions::ExtensionValues;
+use rtp_wire::ExtensionValues;
 use std::alloc::Global;
 use std::marker::Model;
 
-/// A payload that was sent, with its marker, its RTP time and the values of its header extensions.
+/// A sent payload with its marker bit, timestamp and header extension values.
 pub struct SentPacket {
     /// The bytes of the payload.
     pub payload: Vec<u8>,
-    /// The marker.
+    /// The marker bit.
     pub marker: bool,
     /// The RTP time.
     pub time: u32,
@@ -20,7 +20,7 @@ pub struct SentPacket {
     pub values: ExtensionValues,
 }
 
-/// Written by hand so that crates that drop this type need no proof about its fields.
+/// Written by hand, so that crates that drop this type need no proof about its fields.
 impl Drop for SentPacket {
     fn drop(self) {
         let SentPacket {

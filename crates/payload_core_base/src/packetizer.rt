@@ -14,7 +14,7 @@ pub trait Packetizer {
     /// How samples are cut, which no call changes.
     ghost packing: { Self → Packing };
 
-    /// What is kept between samples.
+    /// The state kept between samples.
     ghost sender: { Self → Sender };
 
     /// The payloads of a sample, each of at most `mtu` bytes, in order. An empty sample has none.
@@ -35,15 +35,15 @@ pub trait Packetizer {
             IfErr result (RefusesSample sent) }
         ensures unchanged { OnErr result (sender self.new ≡ sender self.old) };
 
-    /// The marker that a packet is sent with, behind the packet `previous` of its sample, where it has one,
-    /// and `last` where it is the sample's last.
+    /// The marker bit of a packet, given the previous packet of its sample, if any, and whether it
+    /// is the sample's last.
     fn is_marker(&mut self, bytes: &[u8], _previous: Option<&[u8]>, last: bool) -> bool
         ensures marker { result ≡ (packing self.old).marks bytes.now last }
         ensures packing { packing self.new ≡ packing self.old }
         ensures sender { sender self.new ≡ sender self.old };
 
-    /// Whether a sample is known to be the one payload that `packetize` makes of it, and to change nothing that is
-    /// kept, so that its bytes can be sent as they are: of no format, where it doesn't say when.
+    /// Whether a sample is known to be the only payload that `packetize` makes of it, without
+    /// changing the state, so that its bytes can be sent as they are; false by default.
     fn is_own_payload(&self, mtu: usize, bytes: &[u8]) -> bool
         ensures own { let sent = (packing self.now).pack (sender self.now) mtu bytes.now in
             result ≡ true → Sends sent (bytes.now ∷ []) (sender self.now) }

@@ -8,7 +8,7 @@ ghost use Rattle.std.specs.Prelude.{◌≡◌, ◌≢◌, ◌+◌, ◌≤◌, �
 use crate::error::PacketError;
 use crate::packetizer::Packetizer;
 use crate::sink::PacketSink;
-use rtp_wire_extensions::ExtensionValues;
+use rtp_wire::ExtensionValues;
 use std::alloc::Global;
 
 /// Cuts samples into packets and hands these to a sink.

@@ -4,13 +4,13 @@ ghost use Rattle.payload_core_base.specs.Outgoing.{Outgoing, outgoing};
 ghost use Rattle.std.specs.Prelude.{◌≡◌, ◌++◌, ◌∷◌, [], IfErr, List, OnErr, OnOk};
 
 use crate::error::PacketError;
-use rtp_wire_extensions::ExtensionValues;
+use rtp_wire::ExtensionValues;
 
 /// Takes the payloads of packets, one after the other.
 ///
 /// After success a sink has just one payload more, and after lack of memory none: so say its two laws.
 pub trait PacketSink {
-    /// What a sink has of a payload that it took.
+    /// What a sink records for a payload it took.
     ghost Entry: { Type 0 };
 
     /// What it has of all that it took, in order.

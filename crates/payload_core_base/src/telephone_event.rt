@@ -5,7 +5,7 @@ ghost use Rattle.std.specs.Prelude.{◌≡◌, MatchOption, false, true};
 ghost use Rattle.payload_core_base.specs.Telephone.{ReportsComeBack, events_of, first_event, is_reports};
 ghost use Rattle.payload_core_base.specs.Telephone.{report_of};
 
-use rtp_wire_values::ClockRate;
+use rtp_wire::ClockRate;
 use std::num::NonZeroU32;
 
 /// One report of a telephone event (RFC 4733 2.3).
@@ -40,8 +40,8 @@ fn first_event(buf: &[u8], clock_rate: NonZeroU32) -> Option<TelephoneEvent>
 impl TelephoneEvent {
     ghost use Rattle.payload_core_base.specs.TelephoneReports.{events_left};
 
-    /// The report of the first four bytes, with the duration as the floor in nanoseconds of its ticks at
-    /// `clock_rate`; None where there are fewer bytes. The R bit is passed over.
+    /// The report in the first four bytes, its duration converted from ticks of `clock_rate` to
+    /// nanoseconds, rounded down; None if there are fewer bytes. The R bit is ignored.
     pub fn parse<C: ClockRate>(buf: &[u8], clock_rate: C) -> Option<Self>
         ensures { result ≡ first_event (C.hertz clock_rate) buf.now }
     {
@@ -110,8 +110,8 @@ impl<'a> Iterator for TelephoneEvents<'a> {
     }
 }
 
-/// A report's four bytes, read by `parse` and written by `to_bytes` at a clock rate below 1,000,000,000 Hz,
-/// are as they were but for the R bit, which is clear.
+/// A report's four bytes, read by `parse` and written by `to_bytes` at a clock rate below 1 GHz,
+/// are unchanged except for the R bit, which is cleared.
 pub fn telephone_event_law()
     ensures { ReportsComeBack }
 {}

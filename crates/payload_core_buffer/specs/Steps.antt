@@ -1,4 +1,4 @@
--- A pop as one step: what it answers and leaves, and what may be where memory runs out.
+-- A pop as one step: its answer and the state after it, and the states possible if memory runs out.
 use Rattle.std.specs.Prelude.{◌≡◌, ℕ, ◌-◌, List, [], Option, Some, None, Result, Ok, Err, drop, length}
 use Rattle.payload_core_base.specs.Format.{Format, Fragment, Run}
 use Rattle.payload_core_base.specs.declared.error.PacketError.{PacketError}
@@ -12,10 +12,10 @@ use Rattle.payload_core_buffer.specs.Pops.{PopState, ReadsPart, pop_state, run_o
 use Rattle.payload_core_buffer.specs.declared.depacketized.Depacketized.{Depacketized}
 use Rattle.payload_core_buffer.specs.declared.frame.Frame.{Frame}
 use Rattle.payload_core_buffer.specs.declared.held.RtpMeta.{RtpMeta}
-use Rattle.rtp_wire_extensions.specs.declared.values.ExtensionValues.{ExtensionValues}
+use Rattle.rtp_wire.specs.declared.values.ExtensionValues.{ExtensionValues}
 
--- What a poll hands out: the numbers of the first and the last packet of a frame, its RTP timestamp, the values
--- of the last packet's header extensions, what its format reads of its payloads, and what it tells beside.
+-- What a poll hands out: the numbers of a frame's first and last packet, its timestamp, the header extension values of
+-- the last packet, the bytes that its format reads from the payloads, and the codec data.
 pub record MediaUnit : Type 0 where
   pub first : ℕ
   pub last : ℕ
@@ -24,7 +24,7 @@ pub record MediaUnit : Type 0 where
   pub bytes : List ℕ
   pub extra : CodecExtra
 
--- The unit of packets of which this is known, and that gave these bytes and this extra.
+-- The unit of packets with this metadata that gave these bytes and this codec data.
 abbrev pub unit_from : List RtpMeta → List ℕ → CodecExtra → MediaUnit
 unit_from metas bytes extra = record {
   first = (meta_at metas 0).seq_no;
@@ -35,7 +35,7 @@ unit_from metas bytes extra = record {
   extra = extra;
 }
 
--- What a poll answers: that no unit is ready, a unit, or why a packet of its frame is refused.
+-- A poll's answer: no unit is ready, or a unit, or why a packet of its frame is refused.
 abbrev pub Answer : Type 0
 Answer = Result (Option MediaUnit) PacketError
 
@@ -43,7 +43,7 @@ abbrev pub answer_by : Option PacketError → List RtpMeta → List ℕ → Code
 answer_by None metas bytes extra = Ok (Some (unit_from metas bytes extra))
 answer_by (Some e) metas bytes extra = Err e
 
--- The answer that packets give, of which this is known and which were read so.
+-- The answer for packets with this metadata and this run.
 abbrev pub answer_of : List RtpMeta → Run → Answer
 answer_of metas run = answer_by run.fault metas run.written run.extra
 
@@ -56,24 +56,23 @@ answer_among format fragment held None = Ok None
 answer_among format fragment held (Some frame) =
     answer_of (metas_of (packets_between held frame)) (run_among format fragment held frame)
 
--- A poll of what has this state: what it answers and the state behind it, where memory is found; and which states may
--- be where it runs out.
+-- A poll in this state: its answer and the state after it, if memory lasts; and the states possible if it runs out.
 pub record PollStep (S : Type 0) : Type 1 where
   pub answer : Answer
   pub next : S
   pub Stopped : S → Type 0
 
--- What was answered, or nothing where memory ran out, and the state behind it are those of a step.
+-- The answer (None if memory ran out) and the state after it are those of the step.
 abbrev pub AnswersBy : {S : Type 0} → PollStep S → S → Option Answer → Type 0
 AnswersBy step after None = step.Stopped after
 AnswersBy step after (Some answer) = (answer ≡ step.answer) × (after ≡ step.next)
 
--- The packets of a frame, none without one.
+-- The packets of a frame; none if there is no frame.
 abbrev pub packets_of_due : List Packet → Option Frame → List Packet
 packets_of_due held None = []
 packets_of_due held (Some frame) = packets_between held frame
 
--- What is kept behind a frame: all up to its end is gone, whether it was read or refused.
+-- The state after a frame: everything up to its end is gone, whether the frame was read or refused.
 abbrev pub kept_behind : Format → PopState → Option Frame → PopState
 kept_behind format s None = s
 kept_behind format s (Some frame) = record {
@@ -82,8 +81,8 @@ kept_behind format s (Some frame) = record {
   fragment = (run_among format s.fragment s.held frame).fragment;
 }
 
--- What becomes of the frame that is due, if one is. Memory runs out only before all of its packets were read, and then
--- what is held and the cutoff stay.
+-- What happens to the frame that is due, if any. Memory can only run out before all its packets are read; then the held
+-- packets and the cutoff don't change.
 abbrev pub frame_step : Format → PopState → Option Frame → PollStep PopState
 frame_step format s due = record {
   answer = answer_among format s.fragment s.held due;
@@ -92,7 +91,7 @@ frame_step format s due = record {
       × (t ≡ record s { fragment = t.fragment });
 }
 
--- A pop where so many complete frames are held back.
+-- A pop with this hold-back.
 abbrev pub pop_step : Format → ℕ → PopState → PollStep PopState
 pop_step format hold_back s = frame_step format s (due_frame format s.cutoff hold_back s.held)
 
@@ -100,12 +99,12 @@ pop_step format hold_back s = frame_step format s (due_frame format s.cutoff hol
 abbrev pub ready : Format → ℕ → PopState → List Packet
 ready format hold_back s = packets_of_due s.held (due_frame format s.cutoff hold_back s.held)
 
--- What a pop reads and changes of a buffer.
+-- The part of a buffer that a pop reads and changes.
 abbrev pub kept_in : {D : Type 0} → (D → Fragment) → Buffered D → PopState
 kept_in fragment b = pop_state b.held b.cutoff (fragment b.depacketizer)
 
--- A buffer's pop, by what it answered, or nothing where memory ran out: the format and how much is held stay, and None
--- changes nothing, the depacketizer neither.
+-- A buffer's pop, by its answer (None: memory ran out): its format and limits don't change; and if the answer is that
+-- no unit is ready, nothing does.
 pub record PopsBy {D : Type 0} (format : D → Format) (fragment : D → Fragment) (hold_back : ℕ)
     (old new : Buffered D) (answer : Option Answer) : Type 0
   where
@@ -119,7 +118,7 @@ pub record PopsBy {D : Type 0} (format : D → Format) (fragment : D → Fragmen
 abbrev pub unit_of : Depacketized → MediaUnit
 unit_of d = unit_from (metas_of_unit d) d.bytes.items d.extra
 
--- The unit of a frame, by its first and its last packet.
+-- The unit of a frame: its numbers, timestamp and values come from its first and last packet.
 abbrev pub unit_between : List Packet → Frame → List ℕ → CodecExtra → MediaUnit
 unit_between ps f bytes extra = record {
   first = (packet_at ps f.start).meta.seq_no;
@@ -146,7 +145,7 @@ as_answer unit (Ok None) = Some (Ok None)
 as_answer unit (Ok (Some u)) = Some (Ok (Some (unit u)))
 as_answer unit (Err e) = as_refusal e
 
--- What a popped unit tells of its packets is what is known of these.
+-- The popped unit's metadata is that of these packets.
 abbrev pub TellsOf : List Packet → Option Depacketized → Type 0
 TellsOf packets None = Unit {0}
 TellsOf packets (Some d) = metas_of_unit d ≡ metas_of packets

@@ -3,13 +3,13 @@
 ghost use Rattle.payload_core_buffer.specs.Buffered.{may_hold};
 ghost use Rattle.std.specs.Prelude.{◌≡◌};
 
-/// The least number of packets that a buffer may be told to hold at most.
+/// The minimum capacity of a buffer, in packets.
 pub const MIN_HELD: usize = 4096;
 
-/// The greatest number of packets that a buffer may be told to hold at most.
+/// The maximum capacity of a buffer, in packets.
 pub const MAX_HELD: usize = 16384;
 
-/// Whether a buffer may be told to hold so many packets at most: 4,096 to 16,384.
+/// Whether a buffer may have this capacity: 4,096 to 16,384 packets.
 pub fn may_hold(held: usize) -> bool
     ensures { result ≡ may_hold held }
 {

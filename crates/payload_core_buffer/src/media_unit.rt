@@ -3,13 +3,12 @@
 ghost use Rattle.std.specs.Prelude.{◌≡◌};
 
 use payload_core_base::CodecExtra;
-use rtp_wire_extensions::ExtensionValues;
-use rtp_wire_values::SeqNo;
+use rtp_wire::{ExtensionValues, SeqNo};
 use std::marker::Model;
 
-/// A video frame or an audio packet: its bytes, its RTP timestamp (RFC 3550 5.1), the widened sequence numbers
-/// of the first and the last datagram that it came in, the values of the last one's header extensions
-/// (RFC 8285), and what its codec tells beside.
+/// A video frame or an audio packet: its bytes, its RTP timestamp (RFC 3550 5.1), the widened
+/// sequence numbers of its first and last datagram, the last one's header extension values (RFC
+/// 8285), and its codec's own data.
 pub struct Unit {
     pub(crate) bytes: Vec<u8>,
     pub(crate) time: u32,
@@ -19,7 +18,7 @@ pub struct Unit {
     pub(crate) extra: CodecExtra,
 }
 
-/// Written by hand so that crates that drop this type need no proof about its fields.
+/// Written by hand, so that crates that drop this type need no proof about its fields.
 impl Drop for Unit {
     fn drop(self) {
         let Unit {
@@ -56,7 +55,7 @@ impl Unit {
         self.bytes.as_slice()
     }
 
-    /// The RTP timestamp, in ticks of the row's clock, of G.722 at 8,000 Hz (RFC 3551 4.5.2).
+    /// The RTP timestamp, in ticks of the row's clock; for G.722 at 8,000 Hz (RFC 3551 4.5.2).
     pub fn time(&self) -> u32
         ensures { result ≡ self.now.time }
     {

@@ -1,4 +1,4 @@
--- The payload descriptor of VP8 (RFC 7741 4.2). A byte behind the end of a payload counts as 0.
+-- The VP8 payload descriptor (RFC 7741 4.2). A byte past the end of the payload counts as 0.
 use Rattle.std.specs.Prelude.{ℕ, ◌+◌, ◌*◌, ◌%◌, ◌==◌, ◌&&◌, ◌||◌, Bool, true, false, List, [], ◌∷◌, drop}
 use Rattle.std.specs.Prelude.{slice_index, Option, Some, None, Result, Ok, Err, if◌then◌else◌}
 use Rattle.payload_core_base.specs.Bytes.{has_bit}
@@ -8,7 +8,7 @@ use Rattle.payload_core_vpx.specs.declared.vp8_descriptor.Vp8DescriptorError.{Vp
 use Rattle.payload_core_vpx.specs.declared.vp8_descriptor.Vp8DescriptorError.TheVariants.{MalformedDescriptor}
 use Rattle.payload_core_vpx.specs.declared.vp8_descriptor.Vp8DescriptorError.TheVariants.{ShortPayload}
 
--- What the X bit, the flags I, L, T and K, and the M bit announce. Without X there are no flags.
+-- The fields that the X bit, the I, L, T and K flags and the M bit announce. Without X there are no flags.
 abbrev pub shape_with : Bool → ℕ → Bool → Shape
 shape_with false flags m = record {
   is_extended = false;
@@ -28,7 +28,7 @@ shape_with true flags m = record {
   has_key_idx = has_bit 16 flags;
 }
 
--- X stands in the first byte, the flags are the second, and M is the top bit of the picture id, the third.
+-- X is in the first byte; the second byte holds the flags; M is the top bit of the third, the picture id.
 abbrev pub shape_of : List ℕ → Shape
 shape_of p = shape_with (has_bit 128 (slice_index p 0)) (slice_index p 1) (has_bit 128 (slice_index p 2))
 
@@ -36,7 +36,7 @@ shape_of p = shape_with (has_bit 128 (slice_index p 0)) (slice_index p 1) (has_b
 abbrev pub picture_id_size : Shape → ℕ
 picture_id_size s = if s.has_picture_id then (if s.is_long then 2 else 1) else 0
 
--- TL0PICIDX stands behind the picture id.
+-- TL0PICIDX follows the picture id.
 abbrev pub tl0_place : Shape → ℕ
 tl0_place s = 2 + picture_id_size s
 
@@ -62,7 +62,7 @@ tl0_pic_idx_in s p = if s.has_tl0_pic_idx then Some (slice_index p (tl0_place s)
 abbrev pub key_idx_in : Shape → List ℕ → Option ℕ
 key_idx_in s p = if s.has_key_idx then Some (slice_index p (key_place s) % 32) else None
 
--- A frame begins: S is set, and PID is 0.
+-- A frame begins if S is set and PID is 0.
 abbrev pub begins_frame : ℕ → Bool
 begins_frame first = has_bit 16 first && first % 8 == 0
 
@@ -76,7 +76,7 @@ described_in s p = record {
   key_idx = key_idx_in s p;
 }
 
--- At least one byte stands behind a descriptor.
+-- A descriptor must be followed by at least one byte.
 abbrev pub with_frame : Vp8Descriptor → List ℕ → Result Vp8Descriptor Vp8DescriptorError
 with_frame d [] = Err MalformedDescriptor
 with_frame d (b ∷ bs) = Ok d
@@ -94,7 +94,7 @@ abbrev pub begins_keyframe : List ℕ → Bool
 begins_keyframe [] = false
 begins_keyframe (b ∷ bs) = b % 2 == 0
 
--- A keyframe begins: a frame begins, and the low bit behind the descriptor is clear.
+-- A keyframe begins if a frame begins and the low bit after the descriptor is clear.
 abbrev pub starts_keyframe : Vp8Descriptor → List ℕ → Bool
 starts_keyframe d p = d.begins_frame && begins_keyframe (drop (layout_size d.shape) p)
 

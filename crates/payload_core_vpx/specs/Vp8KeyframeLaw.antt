@@ -2,7 +2,7 @@
 use Rattle.std.specs.Prelude.{◌≡◌, ℕ, ◌/◌, ◌%◌, true, List, ◌∷◌}
 use Rattle.payload_core_vpx.specs.Vp8Descriptor.{keyframe_in, parsed}
 
--- Only a payload with S and of partition 0 begins a keyframe.
+-- Only a payload with S and partition index 0 can begin a keyframe.
 abbrev pub KeyframeLaw : Type 0
 KeyframeLaw = (first : ℕ) (rest : List ℕ) → keyframe_in (parsed (first ∷ rest)) (first ∷ rest) ≡ true
     → (first / 16 % 2 ≡ 1) × (first % 8 ≡ 0)

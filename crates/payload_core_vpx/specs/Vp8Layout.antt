@@ -1,4 +1,4 @@
--- Payloads of VP8 as the fields of their descriptor, one behind the other, and bytes of a frame (RFC 7741 4.2).
+-- VP8 payloads as their descriptor's fields followed by bytes of a frame (RFC 7741 4.2).
 use Rattle.std.specs.Prelude.{◌≡◌, ℕ, ◌+◌, ◌*◌, ◌%◌, ◌<◌, ◌&&◌, ◌||◌, Bool, true, false, List, [], ◌∷◌, ◌++◌, drop}
 use Rattle.std.specs.Prelude.{length, Option, Some, None, Ok, if◌then◌else◌}
 use Rattle.payload_core_base.specs.Format.{Fragment, Reading}
@@ -65,24 +65,24 @@ told_by d = record {
   key_idx = d.key_idx;
 }
 
--- A descriptor is read that tells this, and this stands behind it.
+-- The descriptor is read with these values, and these bytes follow it.
 pub record IsParsedAs (packet : List ℕ) (told : Told) (frame : List ℕ) : Type 0 where
   pub descriptor : Vp8Descriptor
   pub is_parsed : parsed packet ≡ Ok descriptor
   pub tells : told_by descriptor ≡ told
   pub behind : drop (layout_size descriptor.shape) packet ≡ frame
 
--- Every such payload has a descriptor that is read so.
+-- Every such payload's descriptor is read this way.
 abbrev pub LayoutLaw : Type 0
 LayoutLaw = (packet : List ℕ) (told : Told) (frame : List ℕ) → IsVp8Packet packet told frame
     → IsParsedAs packet told frame
 
--- And no other payload has one.
+-- No other payload's descriptor is read.
 abbrev pub ParsedLaw : Type 0
 ParsedLaw = (packet : List ℕ) (d : Vp8Descriptor) → parsed packet ≡ Ok d
     → IsVp8Packet packet (told_by d) (drop (layout_size d.shape) packet)
 
--- Such a payload gives its part of the frame, the ids, and whether it or one before it begins a keyframe.
+-- Such a payload gives its bytes of the frame, the ids, and whether it or an earlier one begins a keyframe.
 abbrev pub ReadLaw : Type 0
 ReadLaw = (fragment : Fragment) (extra : CodecExtra) (packet : List ℕ) (told : Told) (frame : List ℕ)
     → IsVp8Packet packet told frame → read_vp8 fragment extra packet ≡ Ok (record {
@@ -95,7 +95,7 @@ ReadLaw = (fragment : Fragment) (extra : CodecExtra) (packet : List ℕ) (told :
       fragment = fragment;
     })
 
--- And no other payload is read.
+-- No other payload is read.
 pub record IsLaidOut (packet : List ℕ) : Type 0 where
   pub told : Told
   pub frame : List ℕ

@@ -13,7 +13,7 @@ pub record IsApart (patch : Vp8Patch) (k : ℕ) : Type 0 where
   pub tl0_pic_idx : ForSome patch.tl0_pic_idx (λ _. k ≢ tl0_place patch.shape)
   pub key_idx : ForSome patch.key_idx (λ _. k ≢ key_place patch.shape)
 
--- Every byte that the patch doesn't write stays, the M bit before a picture id stays, and TID and Y before KEYIDX stay.
+-- The patch changes no byte that it doesn't write, nor the M bit before the picture id, nor TID and Y before KEYIDX.
 pub record ChangesIdsOnly (patch : Vp8Patch) (old new : List ℕ) : Type 0 where
   pub same_length : length new ≡ length old
   pub other_bytes : (k : ℕ) → IsApart patch k → slice_index new k ≡ slice_index old k
@@ -21,11 +21,11 @@ pub record ChangesIdsOnly (patch : Vp8Patch) (old new : List ℕ) : Type 0 where
   pub tid_and_y : patch.shape.has_key_idx ≡ true → slice_index new (key_place patch.shape) / 32
       ≡ slice_index old (key_place patch.shape) / 32
 
--- A builder with a descriptor's own ids.
+-- A builder holding the descriptor's own ids.
 abbrev pub own_ids : Vp8Descriptor → Vp8PatchBuilder
 own_ids d = record { shape = d.shape; picture_id = d.picture_id; tl0_pic_idx = d.tl0_pic_idx; key_idx = d.key_idx }
 
--- The ids come back: the descriptor's own ids build a patch, which restores the payload.
+-- The ids can be restored: a patch built from the descriptor's own ids gives back the payload.
 pub record ComesBack (d : Vp8Descriptor) (old new : List ℕ) : Type 0 where
   pub built : refusal_of_build (own_ids d) ≡ None
   pub restored : patched (patch_of (own_ids d)) new ≡ old
@@ -51,7 +51,7 @@ pub record PatchHolds (d : Vp8Descriptor) (b : Vp8PatchBuilder) (payload : List 
   pub new_ids : parsed (patched (patch_of b) payload) ≡ Ok (with_ids b d)
   pub comes_back : ComesBack d payload (patched (patch_of b) payload)
 
--- So holds every patch that is built from a payload's descriptor, of that payload.
+-- This holds of every patch built from a payload's descriptor, for that payload.
 abbrev pub PatchLaw : Type 0
 PatchLaw = (payload : List ℕ) (d : Vp8Descriptor) (b : Vp8PatchBuilder) → slice_index payload 3 < 256
     → parsed payload ≡ Ok d → b.shape ≡ d.shape → refusal_of_build b ≡ None → PatchHolds d b payload

@@ -37,7 +37,7 @@ abbrev pub first_of_two : Option Vp8PatchError → Option Vp8PatchError → Opti
 first_of_two (Some e) later = Some e
 first_of_two None later = later
 
--- Why no patch is built: the first of the three ids that is refused.
+-- Why no patch is built: the first of the three ids that is invalid.
 abbrev pub refusal_of_build : Vp8PatchBuilder → Option Vp8PatchError
 refusal_of_build b = first_of_two (picture_id_refusal b.shape b.picture_id)
     (first_of_two (tl0_pic_idx_refusal b.shape b.tl0_pic_idx) (key_idx_refusal b.shape b.key_idx))
@@ -45,7 +45,7 @@ refusal_of_build b = first_of_two (picture_id_refusal b.shape b.picture_id)
 abbrev pub patch_of : Vp8PatchBuilder → Vp8Patch
 patch_of b = record { shape = b.shape; picture_id = b.picture_id; tl0_pic_idx = b.tl0_pic_idx; key_idx = b.key_idx }
 
--- A byte with the low bits of a value in its bits below this weight.
+-- The byte with its bits below this weight taken from the value.
 abbrev pub with_low : ℕ → ℕ → ℕ → ℕ
 with_low weight value byte = byte / weight * weight + value % weight
 
@@ -59,7 +59,7 @@ abbrev pub with_tl0_pic_idx : ℕ → Option ℕ → List ℕ → List ℕ
 with_tl0_pic_idx place None p = p
 with_tl0_pic_idx place (Some index) p = slice_set p place index
 
--- KEYIDX behind TID and Y, which stay.
+-- KEYIDX after TID and Y, which don't change.
 abbrev pub with_key_idx : ℕ → Option ℕ → List ℕ → List ℕ
 with_key_idx place None p = p
 with_key_idx place (Some index) p = slice_set p place (with_low 32 index (slice_index p place))
@@ -74,7 +74,7 @@ patched patch p = with_key_idx (key_place patch.shape) patch.key_idx
 abbrev pub picture_id_end : Bool → ℕ
 picture_id_end long = if long then 3 else 2
 
--- A payload of so many bytes reaches each place that the patch writes.
+-- A payload of this length has every byte that the patch writes.
 pub record Reaches (patch : Vp8Patch) (size : ℕ) : Type 0 where
   pub picture_id : ForSome patch.picture_id (λ _. picture_id_end patch.shape.is_long < size)
   pub tl0_pic_idx : ForSome patch.tl0_pic_idx (λ _. tl0_place patch.shape < size)

@@ -9,14 +9,14 @@ use Rattle.payload_core_base.specs.declared.error.PacketError.{PacketError}
 use Rattle.payload_core_vpx.specs.Vp9Descriptor.{vp9_format}
 use Rattle.payload_core_vpx.specs.Vp9Frame.{is_predicted}
 
--- The descriptor of a packet: I and F, P where the frame is told to be predicted, B on the first, E on the last, an id
--- of 15 bits behind the M bit, and with P a reference to the frame before, P_DIFF 1, without N.
+-- The descriptor of a packet: I and F; P if the frame is marked as predicted; B on the first packet, E on the last; a
+-- 15-bit picture id after the M bit; with P a reference to the previous frame (P_DIFF 1, without N).
 abbrev pub descriptor : Bool → ℕ → Bool → Bool → List ℕ
 descriptor told id first last =
     (144 + (if told then 64 else 0) + (if first then 8 else 0) + (if last then 4 else 0)) ∷ (128 + id / 256) ∷ id % 256
     ∷ (if told then 2 ∷ [] else [])
 
--- How many bytes it has.
+-- The descriptor's length.
 abbrev pub descriptor_size : Bool → ℕ
 descriptor_size told = if told then 4 else 3
 
@@ -25,7 +25,7 @@ abbrev pub described : Bool → ℕ → Bool → List (List ℕ) → List (List 
 described told id first [] = []
 described told id first (p ∷ ps) = (descriptor told id first (is_none_left ps) ++ p) ∷ described told id false ps
 
--- A frame is cut into pieces of what the descriptor leaves of the limit; where it leaves nothing, nothing is sent.
+-- A frame is cut into pieces of the limit less the descriptor; if nothing is left, nothing is sent.
 abbrev pub frame_sent : Bool → Sender → ℕ → List ℕ → Sent
 frame_sent told s limit frame =
     if nat_le limit (descriptor_size told) then record { packets = []; sender = s }
@@ -34,7 +34,7 @@ frame_sent told s limit frame =
       sender = after_frame s;
     }
 
--- Whether a frame's packets tell that it is predicted: if that is asked for, and its own header says so.
+-- Whether a frame's packets mark it as predicted: if that was asked for and the frame's own header says so.
 abbrev pub tells_prediction : Bool → List ℕ → Bool
 tells_prediction prediction frame = prediction && is_predicted frame
 
@@ -43,11 +43,11 @@ abbrev pub pack_vp9 : Bool → Sender → ℕ → List ℕ → Result Sent Packe
 pack_vp9 prediction s limit [] = Ok (record { packets = []; sender = s })
 pack_vp9 prediction s limit (b ∷ bs) = Ok (frame_sent (tells_prediction prediction (b ∷ bs)) s limit (b ∷ bs))
 
--- The last packet of a frame has the marker.
+-- The last packet of a frame has the marker bit.
 abbrev pub vp9_packing : Bool → Packing
 vp9_packing prediction = record { pack = pack_vp9 prediction; marks = λ packet last. last }
 
--- A frame with a byte is well-formed. It is one unit of one part, unless the limit leaves nothing behind the
+-- Every nonempty frame is well-formed. It is one unit of one part, unless the limit leaves no room after the
 -- descriptor.
 abbrev pub units_of : Bool → ℕ → List ℕ → List (List (List ℕ))
 units_of told limit sample = if nat_le limit (descriptor_size told) then [] else (sample ∷ []) ∷ []
@@ -55,7 +55,7 @@ units_of told limit sample = if nat_le limit (descriptor_size told) then [] else
 abbrev pub vp9_units : Bool → Sender → ℕ → List ℕ → List (List (List ℕ))
 vp9_units prediction s limit sample = units_of (tells_prediction prediction sample) limit sample
 
--- An empty sample, and one of whose limit the descriptor leaves nothing, leave the sender as it was.
+-- An empty sample, and one whose limit leaves no room after the descriptor, don't change the sender.
 abbrev pub after_limit : Bool → Sender → ℕ → Sender
 after_limit told s limit = if nat_le limit (descriptor_size told) then s else after_frame s
 

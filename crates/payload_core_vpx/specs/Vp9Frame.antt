@@ -2,15 +2,15 @@
 use Rattle.std.specs.Prelude.{ℕ, ◌/◌, ◌%◌, ◌==◌, ◌&&◌, ◌||◌, Bool, false, List, [], ◌∷◌, if◌then◌else◌}
 use Rattle.payload_core_base.specs.Bytes.{has_bit}
 
--- The uncompressed header begins with the frame marker 2 in two bits, and the profile in two, the low one first. With
--- profile 3 a reserved bit follows. Then come show_existing_frame, and, where that is clear, frame_type.
+-- The uncompressed header: the frame marker (2, in two bits), the profile (two bits, low one first), a reserved bit
+-- with profile 3, show_existing_frame, and, if that is clear, frame_type.
 abbrev pub has_marker : ℕ → Bool
 has_marker byte = byte / 64 == 2
 
 abbrev pub is_profile_3 : ℕ → Bool
 is_profile_3 byte = byte / 16 % 4 == 3
 
--- A frame that shows an earlier one, and one that is no key frame, is predicted.
+-- A frame is predicted if it shows an existing frame or isn't a key frame.
 abbrev pub is_not_key : ℕ → Bool
 is_not_key byte =
     if is_profile_3 byte then has_bit 4 byte || has_bit 2 byte else has_bit 8 byte || has_bit 4 byte

@@ -1,4 +1,4 @@
--- Packets of VP9 as the fields of their descriptor, one behind the other, and a payload (RFC 9628 4.2).
+-- VP9 packets as their descriptor's fields followed by a payload (RFC 9628 4.2).
 use Rattle.std.specs.Prelude.{◌≡◌, ⊤, ℕ, ◌+◌, ◌*◌, ◌/◌, ◌%◌, ◌<◌, ◌&&◌, Bool, true, false, zero, suc, List, [], ◌∷◌}
 use Rattle.std.specs.Prelude.{◌++◌, length, Option, Some, None, Ok, Err}
 use Rattle.payload_core_base.specs.Format.{Fragment, Reading}
@@ -30,7 +30,7 @@ AreReferences true (a ∷ b ∷ []) = (has_bit 1 a ≡ true) × (has_bit 1 b ≡
 AreReferences true (a ∷ b ∷ c ∷ []) = (has_bit 1 a ≡ true) × (has_bit 1 b ≡ true) × (has_bit 1 c ≡ false)
 AreReferences _ _ = ⊥
 
--- So many pictures, each a byte of TID, U and R, and R references.
+-- n pictures, each a byte of TID, U and R followed by R references.
 abbrev pub ArePictures : ℕ → List ℕ → Type 0
 ArePictures zero bytes = bytes ≡ []
 ArePictures (suc n) bytes = (byte : ℕ) × (references : List ℕ) × (rest : List ℕ)
@@ -61,14 +61,14 @@ pub record IsVp9Packet (packet : List ℕ) (id : Option ℕ) (payload : List ℕ
   pub is_structure : IsStructure (has_v first) structure
   pub some_payload : 0 < length payload
 
--- Every such packet is read, and gives this payload and this picture id.
+-- Every such packet is read, and gives this payload and picture id.
 abbrev pub LayoutLaw : Type 0
 LayoutLaw = (fragment : Fragment) (extra : CodecExtra) (packet : List ℕ) (id : Option ℕ) (payload : List ℕ)
     → IsVp9Packet packet id payload
     → read_vp9 fragment extra packet ≡ Ok (record
     { written = payload; extra = Vp9 (record { picture_id = id }); fragment = fragment })
 
--- A reading is the payload and the picture id of a packet that is laid out so.
+-- The reading is the payload and the picture id of a packet with this layout.
 pub record IsReadAs (fragment : Fragment) (packet : List ℕ) (r : Reading) : Type 0 where
   pub id : Option ℕ
   pub payload : List ℕ
@@ -98,7 +98,7 @@ pub record ListsFour (packet : List ℕ) : Type 0 where
   pub second_n : has_bit 1 b ≡ true
   pub third_n : has_bit 1 c ≡ true
 
--- Just these are refused for it.
+-- These packets, and no others, are refused as TooManyPDiff.
 abbrev pub TooManyLaw : Type 0
 TooManyLaw = (fragment : Fragment) (extra : CodecExtra) (packet : List ℕ)
     → (ListsFour packet → read_vp9 fragment extra packet ≡ Err ErrTooManyPDiff)

@@ -17,7 +17,7 @@ pub enum Vp8DescriptorError {
     /// The payload has no byte.
     #[error("the VP8 payload is empty")]
     ShortPayload,
-    /// The descriptor passes the payload's end, or nothing stands behind it.
+    /// The descriptor exceeds the payload, or nothing follows it.
     #[error("malformed VP8 descriptor")]
     MalformedDescriptor,
 }
@@ -206,9 +206,9 @@ impl Vp8Descriptor {
         self.key_idx
     }
 
-    /// Whether this payload, descriptor included, begins a keyframe: S is set, PID is 0, and the low bit of
-    /// the first byte behind the descriptor is clear (RFC 7741 4.2 and 4.3). Where no byte stands there,
-    /// false.
+    /// Whether this payload, descriptor included, begins a keyframe: S is set, PID is 0, and the
+    /// low bit of the first byte after the descriptor is clear (RFC 7741 4.2 and 4.3). False if
+    /// there is no such byte.
     pub fn starts_keyframe(&self, payload: &[u8]) -> bool
         ensures { result ≡ starts_keyframe self.now payload.now }
     {

@@ -17,7 +17,7 @@ pub enum Vp8PatchError {
     /// The descriptor has no picture id.
     #[error("the VP8 descriptor has no picture id")]
     PictureIdMissing,
-    /// The picture id passes the 7 or 15 bits of its field.
+    /// The picture id doesn't fit the 7 or 15 bits of its field.
     #[error("the picture id is too large for its field")]
     PictureIdTooLarge,
     /// The descriptor has no TL0PICIDX.
@@ -26,7 +26,7 @@ pub enum Vp8PatchError {
     /// The descriptor has no KEYIDX.
     #[error("the VP8 descriptor has no KEYIDX")]
     KeyIdxMissing,
-    /// KEYIDX passes 31.
+    /// KEYIDX is above 31.
     #[error("KEYIDX is too large for its field")]
     KeyIdxTooLarge,
 }
@@ -40,7 +40,7 @@ pub struct Vp8PatchBuilder {
     key_idx: Option<u8>,
 }
 
-/// New ids for payloads of a descriptor's layout, in the widths that the ids have there.
+/// New ids for payloads with a descriptor's layout, in the widths the ids have there.
 #[derive(Clone, Copy, Debug, Drop)]
 pub struct Vp8Patch {
     shape: Shape,

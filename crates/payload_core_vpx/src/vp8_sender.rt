@@ -102,8 +102,9 @@ impl Vp8Packetizer {
         }
     }
 
-    /// The same packetizer, which writes the id 0 like any other: browsers take a frame without an id among frames
-    /// with ids for a gap, and freeze up to the next keyframe. Without ids it changes nothing that is sent.
+    /// The same packetizer, but the id 0 is written like any other: browsers treat a frame without
+    /// an id among frames with ids as a gap, and freeze until the next keyframe. Without ids it
+    /// changes nothing that is sent.
     pub fn with_zero_id(self) -> Self
         ensures has_id { result.has_id ≡ self.has_id }
         ensures zero_id { result.zero_id ≡ true }

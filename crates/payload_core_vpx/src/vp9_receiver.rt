@@ -140,7 +140,7 @@ fn behind_structure(first: u8, text: &[u8]) -> &[u8]
     }
 }
 
-/// What stands behind the picture id and the layers.
+/// The bytes after the picture id and the layer indices.
 fn references_of(first: u8, rest: &[u8]) -> &[u8]
     ensures { result.now ≡ references_of first rest.now }
 {

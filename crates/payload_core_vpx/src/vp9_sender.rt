@@ -121,9 +121,10 @@ impl Vp9Packetizer {
         }
     }
 
-    /// The same packetizer, which tells of each frame whose own header says that it isn't a key frame that it is
-    /// predicted from the one before: P, and one reference, P_DIFF 1 (RFC 9628 4.2). Browsers take each frame
-    /// without P for a key frame. The descriptor of such a frame has a byte more.
+    /// The same packetizer, but each frame whose own header says that it isn't a key frame is
+    /// marked as predicted from the frame before: P, and one reference with P_DIFF 1 (RFC 9628
+    /// 4.2). Browsers treat every frame without P as a key frame. The descriptor of such a frame
+    /// has one more byte.
     pub fn with_prediction(self) -> Self
         ensures prediction { result.prediction ≡ true }
         ensures id { result.id ≡ self.id }

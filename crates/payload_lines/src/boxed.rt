@@ -1,16 +1,16 @@
 //! A packetizer and a depacketizer that are boxed by their caller.
 
 use crate::formats::Format;
-use command_lines::CommandLine;
 use h26x_payload::{CodecDepacketizer, CodecPacketizer};
 use payload_core::{
     Codec, Depacketizer, DepacketizingBuffer, MIN_HELD, PacketList, Payloader, RtpMeta, SentPacket,
 };
 use rtp_wire::{ExtensionValues, SeqNo};
+use words_and_replies::CommandLine;
 
-/// `boxed CODEC NUMBERS LIMIT SAMPLE`: the payloads of a sample through a boxed packetizer, with a star behind each
-/// that has the marker, and the bytes that they give through a boxed depacketizer. NUMBERS is how far units of H.265
-/// and H.266 may be out of their decoding order, 0 where they have no numbers.
+/// `boxed CODEC NUMBERS LIMIT SAMPLE`: the payloads of a sample by a boxed packetizer, a star after
+/// each with the marker bit, and the bytes that a boxed depacketizer gives for them. NUMBERS is
+/// `sprop-max-don-diff` for H.265 and H.266: 0 for no decoding order numbers.
 pub(crate) fn answer(line: &mut CommandLine<'_>) {
     let codec = Codec::from(line.word());
     let format = Format::new(codec, Some(line.number::<u16>()));

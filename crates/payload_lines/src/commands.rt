@@ -5,11 +5,11 @@ use crate::profiles::{idc, level, profile};
 use crate::samples::{head, keyframe, pack, pushed, read, short_packets, unit};
 use crate::units::{header, shows, units};
 use crate::{boxed, events, redundancy, vp8};
-use command_lines::CommandLine;
 use payload_core::RedSender;
 use std::alloc::{AllocError, Global};
+use words_and_replies::CommandLine;
 
-/// What lines set for those behind them: a payload format, and what payloads are sent beside older ones by.
+/// What lines set for the lines after them: a payload format, and the state for redundancy.
 #[derive(Drop)]
 pub(crate) struct Kept {
     formats: Option<Formats>,

@@ -1,8 +1,8 @@
 //! Reports of telephone events (RFC 4733 2.3).
 
-use command_lines::CommandLine;
 use payload_core::TelephoneEvent;
 use rtp_wire::Frequency;
+use words_and_replies::CommandLine;
 
 /// What `read RATE PACKET` and `write RATE EVENT VOLUME NANOSECONDS [end]` give.
 pub(crate) fn answer(line: &mut CommandLine<'_>) {

@@ -1,10 +1,10 @@
 //! The payload format that the next lines are about.
 
-use command_lines::{CommandLine, part};
 use h26x_payload::{CodecDepacketizer, CodecPacketizer, NotBoxed};
 use payload_core::{Codec, DepacketizingBuffer, MIN_HELD, Payloader};
 use rtp_wire::Frequency;
 use std::alloc::Global;
+use words_and_replies::{CommandLine, part};
 
 /// A codec with what is negotiated of its payload format, the first picture id, whether what browsers need is sent,
 /// and the hold-back.

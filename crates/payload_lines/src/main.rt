@@ -1,6 +1,6 @@
-//! Packs samples and reads packets of each codec, and answers what is asked of fields inside payloads and of units,
-//! headers, profiles and levels of H.264, H.265 and H.266, a line of standard input after the other. Its transcript
-//! holds what was made outside, beside what it gives.
+//! Packs samples and reads packets of each codec, and answers questions about fields inside
+//! payloads and about units, headers, profiles and levels of H.264, H.265 and H.266, one line of
+//! standard input at a time. Its transcript compares the results with data made by other programs.
 #![tactic(auto)]
 
 mod boxed;
@@ -13,9 +13,9 @@ mod samples;
 mod units;
 mod vp8;
 
-use command_lines::CommandLine;
 use commands::{Kept, answer};
 use std::io;
+use words_and_replies::CommandLine;
 
 /// Answers each line by a line: a comment by itself, a command by what it gives, and another line, or what is refused,
 /// by the word `fault` and the reason.

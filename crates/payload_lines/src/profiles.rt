@@ -1,10 +1,10 @@
 //! Profiles and levels of H.264, H.265 and H.266, from their numbers and from the values of a session text.
 
-use command_lines::CommandLine;
 use h26x_payload::{
     H264LevelIdc, H264ProfileIdc, H264ProfileLevel, H265ProfileTierLevel, H266ProfileTierLevel,
 };
 use std::fmt::Debug;
+use words_and_replies::CommandLine;
 
 /// `profile CODEC VALUE ..`: what a codec's values mean, of H.264 a profile-level-id in hexadecimal, of the others a
 /// profile-id, a tier-flag and a level-id, where a dash stands for one that isn't given.

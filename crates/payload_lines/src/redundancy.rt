@@ -1,7 +1,7 @@
 //! Payloads beside older ones (RFC 2198).
 
-use command_lines::{CommandLine, part};
 use payload_core::{RedDecoder, RedEncoder, RedSender, RedundantBlock};
+use words_and_replies::{CommandLine, part};
 
 /// What `new DISTANCES`, `sync DISTANCES`, `wrap`, `write` and `read PACKET` give.
 pub(crate) fn answer(line: &mut CommandLine<'_>, sender: &mut RedSender) {
@@ -26,7 +26,7 @@ fn renewed(line: &mut CommandLine<'_>, sender: &mut RedSender) {
     }
 }
 
-/// Takes the distances of the next word, if they are some: numbers that commas part, or a dash for none.
+/// Takes the distances in the next word, if valid: numbers separated by commas, or a dash for none.
 fn synced(line: &mut CommandLine<'_>, sender: &mut RedSender) {
     let mut distances = Vec::new(line.alloc());
     let word = line.word();

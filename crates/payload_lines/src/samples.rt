@@ -1,7 +1,6 @@
 //! Samples that are packed, and packets that are read and held.
 
 use crate::formats::{Format, Formats};
-use command_lines::CommandLine;
 use h26x_payload::{detect_h264_keyframe, detect_h265_keyframe, detect_h266_keyframe};
 use payload_core::{
     Codec, CodecExtra, Depacketized, Depacketizer, PacketError, PacketList, Packetizer, Payloader,
@@ -9,6 +8,7 @@ use payload_core::{
 };
 use rtp_wire::{ExtensionValues, SeqNo};
 use std::alloc::Global;
+use words_and_replies::CommandLine;
 
 /// `head PACKET`: whether a packet is the head of a frame.
 pub(crate) fn head(line: &mut CommandLine<'_>, format: &Format) {

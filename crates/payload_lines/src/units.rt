@@ -1,10 +1,10 @@
 //! Units and headers of H.264, H.265 and H.266.
 
-use command_lines::CommandLine;
 use h26x_payload::{
     H265FragmentationUnitHeader, H265NALUHeader, H266FragmentationUnitHeader, H266NALUHeader,
     detect_h264_nalu, nal_units,
 };
+use words_and_replies::CommandLine;
 
 /// `units TEXT`: the units of a text (ITU-T H.264 annex B), parted by blanks; a dash stands for none.
 pub(crate) fn units(line: &mut CommandLine<'_>) {

@@ -1,7 +1,7 @@
 //! Ids in VP8 payload descriptors (RFC 7741 4.2).
 
-use command_lines::{CommandLine, part};
 use payload_core::{Vp8Descriptor, Vp8Patch};
+use words_and_replies::{CommandLine, part};
 
 // A payload of so many bytes reaches each id that a descriptor can have.
 const REACHES_IDS: usize = 6;

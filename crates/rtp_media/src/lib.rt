@@ -1,39 +1,36 @@
-//! The program `run`, and the whole layer of ends under one name.
+//! The media path between two ends: an `End` exchanges offer and answer texts, opens streams, turns samples into
+//! datagrams and datagrams into units. Browsers' texts, forwarding by packets and the program of lines are here too, and
+//! the RTP and SDP types that the calls use.
 #![tactic(auto)]
 
-mod draft;
-mod end_error_names;
-mod exchange_error_names;
-mod exchanging;
-mod making;
-mod memory_name;
-mod playing;
-mod program;
-mod replies;
-mod streams;
-
-pub use draft::EndAndDraft;
-pub use end_error_names::{fault_name, sample_error_name};
-pub use exchanging::{accept, answer_offer, connect_ends, offer, withdraw};
-pub use making::{draft_ext, draft_row, make_end, make_fixed};
-pub use memory_name::memory;
-pub use payload_core_base::CodecExtra;
-pub use program::{Program, run};
-pub use replies::one;
-pub use rtp_media_lines::{
-    MAX_LINE_LENGTH, MAX_READS, Respond, RunFault, Status, WriteFault, answer_lines,
-    lines_are_what_was_ended, run_lines, run_within, write_whole,
+pub use media_types::{Codec, MediaKind};
+pub use payload_core_base::{CodecExtra, PacketError};
+pub use payload_core_buffer::{MAX_HELD, MIN_HELD, Unit, may_hold};
+pub use rtp_media_browsers::{
+    BrowserError, Gathering, Identity, NamedWish, Place, Plan, Remote, Said, Target, Track,
+    Transport, Wish, WishError, answer_for_end, following_law, for_browser, for_end,
+    map_for_browsers, return_law, rows_for_browsers, sections_for, wishes_for,
 };
-pub use rtp_media_play::{
-    AgreedSection, Bandwidth, Codec, CodecConfig, CodecSpec, Datagram, Distances, End, EndError,
-    Event, ExchangeError, FormatParams, MAX_HELD, MIN_HELD, MediaKind, OpenError, PacketError,
-    PayloadParams, Played, PollFault, Polls, ReceiveError, Received, ReceivedAll, RepairError,
-    RoundError, Sample, SampleError, SdpError, SectionSpec, Session, SessionAttribute,
-    StreamParams, Unit, are_sound, connect, headline, may_hold, play,
+pub use rtp_media_ends::{
+    Distances, End, OpenError, ReceivedAll, StreamParams, connect, isolation_law, openings_law,
+    repairs_law, transparency_law,
 };
+pub use rtp_media_exchange::{EndError, ExchangeError};
+pub use rtp_media_forward::{Forwarder, Piece, Placed, forwarding_laws, relayed_laws};
+pub use rtp_media_forward_runs::{first_hop_law, forwarded_runs_law, hops_laws};
+pub use rtp_media_program::{RunFault, Status, run};
+pub use rtp_media_runs::{
+    Event, Played, Sample, headline, late_repairs_law, play, redundancy_law, second_hop_law,
+};
+pub use rtp_media_sections::{AgreedSection, SectionSpec, are_sound};
+pub use rtp_media_stream_table::{Polls, ReceiveError, Received};
+pub use rtp_media_streams::{Arrival, Datagram, ForwardError, PollFault, RepairError, SampleError};
 pub use rtp_wire::{
     Direction, Extension, ExtensionMap, ExtensionValues, Frequency, MediaTime, Mid, Pt, SeqNo,
     SessionId, Ssrc,
 };
-pub use sdp_formats_data::{Listed, Text};
-pub use streams::{open, poll, receive, repair, sample, send, unit_reply, verdict_reply};
+pub use sdp_formats_data::{SdpError, Session, SessionAttribute};
+pub use sdp_formats_grammar::{Listed, Text};
+pub use sdp_formats_rounds::{CodecConfig, RoundError};
+pub use sdp_formats_rows::{CodecSpec, FormatParams, PayloadParams};
+pub use sdp_formats_values::Bandwidth;

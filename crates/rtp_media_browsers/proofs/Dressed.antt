@@ -1,14 +1,14 @@
 -- Lines of a section with the transport's.
-use Rattle.std.proofs.Common.{◌≡◌, ◌∙◌, ap, sym, refl, ℕ, Bool, true, false, not, ◌&&◌, List, [], ◌∷◌, ◌++◌, map}
+use Rattle.std.proofs.Common.{◌≡◌, ◌∙◌, ap, refl, Bool, true, false, ◌&&◌, List, [], ◌∷◌, ◌++◌, map}
 use Rattle.std.proofs.Common.{filter}
-use Rattle.std.proofs.Common.{Option, None, Some, cond, append_assoc}
+use Rattle.std.proofs.Common.{Option, None, cond, append_assoc}
 use Rattle.std.specs.List.{flat_map, list_all}
 use Rattle.std.specs.Option.{option_or}
 use Rattle.sdp_formats_data.specs.Lookups.{first_of}
 use Rattle.sdp_formats_data.specs.Media.{is_mid}
 use Rattle.sdp_formats_data.specs.declared.media.MediaAttribute.{MediaAttribute}
 use Rattle.sdp_formats_data.specs.declared.media.MediaAttribute.TheVariants as line
-use Rattle.sdp_formats_data.specs.declared.Candidate.{Candidate}
+use Rattle.sdp_formats_values.specs.declared.candidate.Candidate.{Candidate}
 use Rattle.rtp_media_browsers.specs.ForBrowsers.{dressed_attribute, gathering_lines, transport_lines}
 use Rattle.rtp_media_browsers.specs.Lines.{is_transport}
 use Rattle.rtp_media_browsers.specs.declared.transport.Gathering.{Gathering}

@@ -1,67 +1,84 @@
 -- Sections that stand at their places.
-use Rattle.std.proofs.Common.{◌≡◌, ◌∙◌, ap, sym, refl, ℕ, suc, zero, Bool, true, false, List, [], ◌∷◌, map, Option}
-use Rattle.std.proofs.Common.{None, Some}
-use Rattle.std.proofs.Common.{slice_get, ◌&&◌}
+use Rattle.std.proofs.Common.{◌≡◌, ◌∙◌, ap, sym, refl, subst, ℕ, suc, zero, true, List, [], ◌∷◌, ◌++◌, Option}
+use Rattle.std.proofs.Common.{None, Some, slice_get, drop, filter, length}
 use Rattle.std.proofs.lemmas.Bool.{cond_both}
-use Rattle.std.specs.Cmp.Lexicographic.{nat_list_eq_equiv}
+use Rattle.std.specs.List.{flat_map, list_all}
 use Rattle.rtp_media_sections.specs.Lines.{mid_of}
 use Rattle.sdp_formats_data.specs.declared.media.MediaLine.{MediaLine}
-use Rattle.sdp_formats_data.specs.WholeTexts.{is_name}
+use Rattle.rtp_media_browsers.specs.Following.{is_new, section_named}
 use Rattle.rtp_media_browsers.specs.ForEnds.{bundled}
-use Rattle.rtp_media_browsers.specs.Laws.{AreRejections, PutBackInPlace, TakenAreRejected}
-use Rattle.rtp_media_browsers.specs.Places.{is_taken, left, place_of, places_from, put_back, rejected}
-use Rattle.rtp_media_browsers.specs.Refusals.{begin_with, kept_name, kept_names, name_at}
+use Rattle.rtp_media_browsers.specs.Laws.{AreRejections, EachInItsPlace, TakenAreRejected}
+use Rattle.rtp_media_browsers.specs.Names.{mids_of}
+use Rattle.rtp_media_browsers.specs.Places.{at_place, if_any, is_taken, places_from, rejected}
+use Rattle.rtp_media_browsers.specs.Refusals.{is_found}
 use Rattle.rtp_media_browsers.specs.declared.plan.Place.{Place}
 use Rattle.rtp_media_browsers.specs.declared.plan.Place.TheVariants.{Kept, Taken}
 use Rattle.rtp_media_browsers.specs.declared.wish.Wish.{Wish}
 use Rattle.rtp_media_browsers.proofs.Dressed.{both_of}
+use Rattle.rtp_media_browsers.proofs.Named.{is_found_among}
 
-others : (ps : List Place) (ms : List MediaLine) → begin_with (kept_names ps) ms ≡ true → left ps (put_back ps ms) ≡ ms
-unfolding kept_name
-others [] ms enough = refl
-others (Taken r ∷ ps) ms enough = others ps ms enough
-others (Kept name ∷ ps) [] enough = cc
-others (Kept name ∷ ps) (m ∷ ms) enough =
-    ap (λ (xs : List MediaLine). m ∷ xs)
-    (others ps ms (both_of (is_name name (mid_of m)) (begin_with (kept_names ps) ms) enough).1)
+some_of : (o : Option MediaLine) (m : MediaLine) → if_any o ≡ m ∷ [] → Some m ≡ o
+some_of None m h = cc
+some_of (Some x) m h = cc
 
-same_taken : (r s : MediaLine) → Some (Taken s) ≡ Some (Taken r) → Some s ≡ Some r
-same_taken r s h = cc
+nothing_at : {A : Type 0} (p : Place) → None ≡ Some p → A
+nothing_at p h = cc
 
-not_kept : {A : Type 0} (name : List ℕ) (r : MediaLine) → Some (Kept name) ≡ Some (Taken r) → A
-not_kept name r h = cc
+same_place : (p q : Place) → Some p ≡ Some q → p ≡ q
+same_place p q h = cc
 
-taken : (ps : List Place) (ms : List MediaLine) → begin_with (kept_names ps) ms ≡ true → (n : ℕ) (r : MediaLine)
-    → slice_get ps n ≡ Some (Taken r) → slice_get (put_back ps ms) n ≡ Some r
-unfolding kept_name
-taken [] ms enough n r h = cc
-taken (Taken s ∷ ps) ms enough zero r h = same_taken r s h
-taken (Taken s ∷ ps) ms enough (suc n) r h = taken ps ms enough n r h
-taken (Kept name ∷ ps) [] enough n r h = cc
-taken (Kept name ∷ ps) (m ∷ ms) enough zero r h = not_kept name r h
-taken (Kept name ∷ ps) (m ∷ ms) enough (suc n) r h =
-    taken ps ms (both_of (is_name name (mid_of m)) (begin_with (kept_names ps) ms) enough).1 n r h
+-- what stands at a place, by its kind
+abbrev StandsAt : List MediaLine → Place → Option MediaLine → Type 0
+StandsAt ms (Taken r) o = o ≡ Some r
+StandsAt ms (Kept name) o = o ≡ section_named ms name
 
-both : (a b : Bool) → a ≡ true → b ≡ true → (a && b) ≡ true
-both a b x y = rw (x, y) refl
+module _ (ms rest : List MediaLine) where
+  -- one section stands at a place whose name is found
+  one_at : (p : Place) → is_found (mids_of ms) p ≡ true → (m : MediaLine) × (at_place ms p ≡ m ∷ [])
+  unfolding at_place is_found
+  one_at (Taken r) h = (r, refl)
+  one_at (Kept name) h =
+      let found = is_found_among ms name h in
+      (found.0, ap if_any found.1)
 
-names : (ps : List Place) (ms : List MediaLine) → begin_with (kept_names ps) ms ≡ true
-    → begin_with (map name_at ps) (put_back ps ms) ≡ true
-unfolding kept_name name_at
-names [] ms enough = refl
-names (Taken r ∷ ps) ms enough =
-    both (is_name (mid_of r) (mid_of r)) (begin_with (map name_at ps) (put_back ps ms))
-    (nat_list_eq_equiv.refl (mid_of r)) (names ps ms enough)
-names (Kept name ∷ ps) [] enough = cc
-names (Kept name ∷ ps) (m ∷ ms) enough =
-    let here = both_of (is_name name (mid_of m)) (begin_with (kept_names ps) ms) enough in
-    both (is_name name (mid_of m)) (begin_with (map name_at ps) (put_back ps ms)) here.0 (names ps ms here.1)
+  stands_one : (p : Place) (m : MediaLine) → at_place ms p ≡ m ∷ [] → StandsAt ms p (Some m)
+  unfolding at_place
+  stands_one (Taken r) m h = some_of (Some r) m h
+  stands_one (Kept name) m h = some_of (section_named ms name) m h
 
-pub put_back_in_place : PutBackInPlace
-put_back_in_place ps ms enough = record {
-  others = others ps ms enough;
-  taken = taken ps ms enough;
-  names = names ps ms enough;
+  abbrev behind : List Place → List MediaLine
+  behind ps = flat_map (at_place ms) ps ++ rest
+
+  one_more : (p : Place) (ps : List Place) (m : MediaLine) → at_place ms p ≡ m ∷ [] → behind (p ∷ ps) ≡ m ∷ behind ps
+  one_more p ps m is = ap (λ (xs : List MediaLine). (xs ++ flat_map (at_place ms) ps) ++ rest) is
+
+  stands : (ps : List Place) → list_all (is_found (mids_of ms)) ps ≡ true → (n : ℕ) (p : Place)
+      → slice_get ps n ≡ Some p → StandsAt ms p (slice_get (behind ps) n)
+  stands [] h n p at = nothing_at p at
+  stands (q ∷ ps) h zero p at =
+      let here = both_of (is_found (mids_of ms) q) (list_all (is_found (mids_of ms)) ps) h in
+      let one = one_at q here.0 in
+      subst (λ (x : Place). StandsAt ms x (slice_get (behind (q ∷ ps)) zero)) (same_place q p at)
+      (subst (StandsAt ms q) (sym (ap (λ (xs : List MediaLine). slice_get xs zero) (one_more q ps one.0 one.1)))
+      (stands_one q one.0 one.1))
+  stands (q ∷ ps) h (suc n) p at =
+      let here = both_of (is_found (mids_of ms) q) (list_all (is_found (mids_of ms)) ps) h in
+      let one = one_at q here.0 in
+      subst (StandsAt ms p) (sym (ap (λ (xs : List MediaLine). slice_get xs (suc n)) (one_more q ps one.0 one.1)))
+      (stands ps here.1 n p at)
+
+  added : (ps : List Place) → list_all (is_found (mids_of ms)) ps ≡ true → drop (length ps) (behind ps) ≡ rest
+  added [] h = refl
+  added (q ∷ ps) h =
+      let here = both_of (is_found (mids_of ms) q) (list_all (is_found (mids_of ms)) ps) h in
+      let one = one_at q here.0 in
+      ap (λ (xs : List MediaLine). drop (suc (length ps)) xs) (one_more q ps one.0 one.1) ∙ added ps here.1
+
+pub each_in_its_place : EachInItsPlace
+each_in_its_place ps olds ms found = record {
+  taken = λ n r at. stands ms (filter (is_new olds) ms) ps found n (Taken r) at;
+  kept = λ n name at. stands ms (filter (is_new olds) ms) ps found n (Kept name) at;
+  added = added ms (filter (is_new olds) ms) ps found;
 }
 
 module _ (bundle : List (List ℕ)) (wishes : List Wish) where

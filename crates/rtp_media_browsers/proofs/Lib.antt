@@ -1,10 +1,13 @@
+pub mod Asked
 pub mod Dressed
+pub mod GoingOn
 pub mod InPlace
+pub mod Named
 pub mod Placed
 pub mod Prints
+pub mod Read
 pub mod Refused
 pub mod Returning
-pub mod Said
 pub mod SessionBack
 pub mod Steps
 pub mod Whole

@@ -1,6 +1,6 @@
 -- The preferred fingerprint of two lists.
 use Rattle.std.proofs.Common.{◌≡◌, List, [], ◌∷◌, ◌++◌}
-use Rattle.sdp_formats_data.specs.declared.Fingerprint.{Fingerprint}
+use Rattle.sdp_formats_values.specs.declared.fingerprint.Fingerprint.{Fingerprint}
 use Rattle.sdp_formats_data.specs.Preference.{IsFirstOfLowest}
 use Rattle.rtp_media_browsers.specs.Remotes.{else_of}
 

@@ -1,12 +1,16 @@
 -- Why calls are refused.
-use Rattle.std.proofs.Common.{◌≡◌, ◌⊎◌, inl, inr, refl, subst, sym, ℕ, List, Option, None, Some, Err}
+use Rattle.std.proofs.Common.{◌≡◌, ◌∙◌, ap, inl, inr, refl, subst, sym, ℕ, false, List, Option, None, Some, Err}
 use Rattle.sdp_formats_data.specs.declared.session.Sdp.{Sdp}
-use Rattle.rtp_media_browsers.specs.Calls.{IsRefused, IsUndressed}
+use Rattle.sdp_formats_values.specs.declared.setup.Setup.{Setup}
+use Rattle.rtp_media_browsers.specs.Calls.{IsDressed, IsRefused, IsUndressed}
+use Rattle.rtp_media_browsers.specs.Fit.{settled}
 use Rattle.rtp_media_browsers.specs.ForBrowsers.{for_browser}
-use Rattle.rtp_media_browsers.specs.Reading.{IsUnread, IsUnwritten, SaysWhole}
+use Rattle.rtp_media_browsers.specs.Identities.{said_of, told_text}
+use Rattle.rtp_media_browsers.specs.Reading.{IsUnread, IsUnwritten, IsWritten, SaysWhole}
 use Rattle.rtp_media_browsers.specs.Refusals.{Checks, browser_refusal}
 use Rattle.rtp_media_browsers.specs.declared.error.BrowserError.{BrowserError}
 use Rattle.rtp_media_browsers.specs.declared.error.BrowserError.TheVariants as error
+use Rattle.rtp_media_browsers.specs.declared.identity.Said.{Said}
 use Rattle.rtp_media_browsers.specs.declared.plan.Plan.{Plan}
 use Rattle.rtp_media_browsers.specs.declared.transport.Transport.{Transport}
 
@@ -50,7 +54,8 @@ module _ (text : List ℕ) (plan : Plan) (t : Transport) where
   own_tested sdp e whole h = inl (tested text (browser_refusal plan t) sdp e whole h)
 
   pub own_unwritten : (sdp : Sdp) (e : BrowserError) → SaysWhole text sdp → browser_refusal plan t sdp ≡ None
-      → IsUnwritten (for_browser plan t sdp) e → IsUndressed text plan t e
+      → IsUnwritten (told_text plan.identity plan.said (for_browser plan t sdp)) (for_browser plan t sdp) e
+      → IsUndressed text plan t e
   own_unwritten sdp error.Memory whole passes h = inl (inl tt)
   own_unwritten sdp error.NotWritable whole passes h = inr (refl, (sdp, (whole, passes, h)))
   own_unwritten sdp error.Unreadable whole passes h = absurd h
@@ -66,3 +71,27 @@ module _ (text : List ℕ) (plan : Plan) (t : Transport) where
   own_unwritten sdp error.UfragNotFit whole passes h = absurd h
   own_unwritten sdp error.PasswordNotFit whole passes h = absurd h
   own_unwritten sdp error.SetupNotFit whole passes h = absurd h
+
+  pub own_unwritten_by : (sdp d : Sdp) (e : BrowserError) → SaysWhole text sdp → browser_refusal plan t sdp ≡ None
+      → d ≡ for_browser plan t sdp → IsUnwritten (told_text plan.identity plan.said d) d e → IsUndressed text plan t e
+  own_unwritten_by sdp d e whole passes is h =
+      own_unwritten sdp e whole passes (subst (λ (x : Sdp). IsUnwritten (told_text plan.identity plan.said x) x e) is h)
+
+  -- what a browser gets
+  pub is_dressed : (sdp d : Sdp) (setup : Option Setup) (out : List ℕ) (said : Said) → SaysWhole text sdp
+      → browser_refusal plan t sdp ≡ None → d ≡ for_browser plan t sdp
+      → IsWritten (told_text plan.identity plan.said d) d out → said ≡ said_of plan.identity plan.said d
+      → setup ≡ settled plan.setup t.setup
+      → IsDressed text plan t (record plan { setup = setup; is_answering = false; said = Some said }) out
+  is_dressed sdp d setup out said whole passes is written remembered role = record {
+    sdp = sdp;
+    says = whole;
+    passes = passes;
+    settles = λ i. record plan {
+      setup = role i;
+      is_answering = false;
+      said = Some ((remembered ∙ ap (said_of plan.identity plan.said) is) i);
+    };
+    dressed = written.0 ∙ ap (told_text plan.identity plan.said) is;
+    read = subst (SaysWhole out) is written.1;
+  }

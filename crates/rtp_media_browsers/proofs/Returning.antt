@@ -1,18 +1,18 @@
 -- Sections for a browser, as an end reads them again.
-use Rattle.std.proofs.Common.{◌≡◌, ◌∙◌, ap, sym, refl, subst, ℕ, Bool, true, false, not, ◌&&◌, ◌||◌, List, [], ◌∷◌}
-use Rattle.std.proofs.Common.{map, filter, Option, None, cond}
-use Rattle.std.specs.List.{flat_map, list_all}
+use Rattle.std.proofs.Common.{◌≡◌, ◌∙◌, ap, sym, refl, ℕ, Bool, true, false, not, ◌&&◌, List, [], ◌∷◌}
+use Rattle.std.proofs.Common.{map, filter, Option, None}
+use Rattle.std.specs.List.{list_all}
 use Rattle.std.specs.Option.{unwrap_or}
-use Rattle.rtp_wire.specs.declared.Direction.{Direction}
-use Rattle.rtp_wire.specs.declared.Direction.TheVariants as way
+use Rattle.rtp_wire.specs.declared.direction.Direction.{Direction}
+use Rattle.rtp_wire.specs.declared.direction.Direction.TheVariants as way
 use Rattle.rtp_media_sections.specs.Lines.{mid_of}
 use Rattle.sdp_formats_data.specs.Lookups.{direction_in, mid_in}
-use Rattle.sdp_formats_data.specs.MediaTypes.{is_media}
+use Rattle.sdp_formats_values.specs.MediaTypes.{is_media}
 use Rattle.sdp_formats_data.specs.declared.media.MediaAttribute.{MediaAttribute}
 use Rattle.sdp_formats_data.specs.declared.media.MediaAttribute.TheVariants as line
 use Rattle.sdp_formats_data.specs.declared.media.MediaLine.{MediaLine}
 use Rattle.sdp_formats_data.specs.Sections.{extmap_in}
-use Rattle.rtp_media_browsers.specs.ForBrowsers.{dressed_attribute, dressed_section}
+use Rattle.rtp_media_browsers.specs.ForBrowsers.{dressed_section}
 use Rattle.rtp_media_browsers.specs.ForEnds.{end_section}
 use Rattle.rtp_media_browsers.specs.Laws.{LinesStay, has_no_transport, is_end_section}
 use Rattle.rtp_media_browsers.specs.Lines.{is_bundle_only, is_transport, stays}

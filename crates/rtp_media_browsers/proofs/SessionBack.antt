@@ -7,10 +7,10 @@ use Rattle.std.proofs.lemmas.List.Elements.{filter-append}
 use Rattle.sdp_formats_data.specs.declared.session.Session.{Session}
 use Rattle.sdp_formats_data.specs.declared.session.SessionAttribute.{SessionAttribute}
 use Rattle.sdp_formats_data.specs.declared.session.SessionAttribute.TheVariants as session
-use Rattle.rtp_media_browsers.specs.ForBrowsers.{dressed_session, lite_line, mixed_line}
+use Rattle.rtp_media_browsers.specs.ForBrowsers.{bundled_as, dressed_session, lite_line, mixed_line}
 use Rattle.rtp_media_browsers.specs.ForEnds.{end_session, restricted}
-use Rattle.rtp_media_browsers.specs.Laws.{names_only}
-use Rattle.rtp_media_browsers.specs.Lines.{is_bundle_name, is_session_transport, mixed_words, says_mixed}
+use Rattle.rtp_media_browsers.specs.Laws.{AreBundlesOf, IsBundleOf, names_only}
+use Rattle.rtp_media_browsers.specs.Lines.{is_bundle_name, is_session_transport}
 use Rattle.rtp_media_browsers.specs.Lines.{stays_in_session}
 use Rattle.rtp_media_browsers.specs.Names.{is_among}
 use Rattle.rtp_media_browsers.proofs.Dressed.{both_of}
@@ -51,6 +51,21 @@ all_restricted names (a ∷ as') h =
     let here = both_of (names_only names a) (list_all (names_only names) as') h in
     λ i. restricted_same names a here.0 i ∷ all_restricted names as' here.1 i
 
+group_of : (names mids : List (List ℕ)) (bundles : Bool) → (bundles ≡ true → mids ≡ names)
+    → cond bundles names mids ≡ mids
+group_of names mids true h = sym (h refl)
+group_of names mids false h = refl
+
+bundled_same : (names : List (List ℕ)) (a : SessionAttribute) → IsBundleOf names a → bundled_as names a ≡ a
+unfolding bundled_as IsBundleOf
+bundled_same names (session.Group typ mids) h = ap (session.Group typ) (group_of names mids (is_bundle_name typ) h)
+bundled_same names _ h = refl
+
+all_bundled : (names : List (List ℕ)) (as' : List SessionAttribute) → AreBundlesOf names as'
+    → map (bundled_as names) as' ≡ as'
+all_bundled names [] h = refl
+all_bundled names (a ∷ as') h = λ i. bundled_same names a h.0 i ∷ all_bundled names as' h.1 i
+
 module _ (names : List (List ℕ)) (s : Session) (stay : list_all stays_in_session s.attrs ≡ true)
     (groups : list_all (names_only names) s.attrs ≡ true) where
   attributes : map (restricted names) (filter stays_in_session s.attrs) ≡ s.attrs
@@ -67,8 +82,12 @@ module _ (names : List (List ℕ)) (s : Session) (stay : list_all stays_in_sessi
       goes (s.attrs ++ mixed_line mixed) (lite_line lite) (lite_goes lite)
       ∙ goes s.attrs (mixed_line mixed) (mixed_goes mixed)
 
-  pub session_back : (mixed lite : Bool) → end_session names (dressed_session mixed lite s) ≡ s
+  pub session_back : AreBundlesOf names s.attrs → (mixed lite : Bool)
+      → end_session names (dressed_session names mixed lite s) ≡ s
   unfolding end_session dressed_session
-  session_back mixed lite =
-      let attrs = ap (map (restricted names)) (without_lines mixed lite) ∙ attributes in
+  session_back bundles mixed lite =
+      let same = all_bundled names s.attrs bundles in
+      let attrs = ap (λ (as' : List SessionAttribute). map (restricted names) (filter stays_in_session
+      (as' ++ mixed_line mixed ++ lite_line lite))) same
+      ∙ ap (map (restricted names)) (without_lines mixed lite) ∙ attributes in
       λ i. record s { attrs = attrs i }

@@ -1,5 +1,6 @@
 -- One place more.
-use Rattle.std.proofs.Common.{◌≡◌, ◌∙◌, ◌+◌, ◌<◌, ◌≤◌, ℕ, suc, List, [], ◌∷◌, ◌++◌, ap, sym, refl, drop, get_or}
+use Rattle.std.proofs.Common.{cond, Bool}
+use Rattle.std.proofs.Common.{◌≡◌, ◌∙◌, ◌+◌, ◌<◌, ℕ, suc, List, [], ◌∷◌, ◌++◌, ap, sym, refl, drop, get_or}
 use Rattle.std.proofs.Common.{length, Option}
 use Rattle.std.proofs.Common.{None, Some, slice_get, arith, inl, inr, add-one, append_assoc, Bor, ltb}
 use Rattle.std.proofs.Math.Seq.{drop-cons}
@@ -8,8 +9,12 @@ use Rattle.std.proofs.lemmas.Bool.{ltb-false, ltb-true}
 use Rattle.std.proofs.lemmas.Option.{slice_get_cases, slice_get_past, slice_get_read}
 use Rattle.std.specs.Option.{IfSome, is_some, option_copied}
 use Rattle.sdp_formats_data.specs.declared.media.MediaLine.{MediaLine}
-use Rattle.rtp_media_browsers.specs.Places.{left, left_at, place_of, places_from}
-use Rattle.rtp_media_browsers.specs.Wanted.{wanted, wanted_from}
+use Rattle.rtp_media_browsers.specs.Places.{answered_or_new, answered_places, left, left_at}
+use Rattle.rtp_media_browsers.specs.Places.{place_of, places_from}
+use Rattle.rtp_media_browsers.specs.Asking.{is_for_kind, is_for_mid, kind_from, named_from}
+use Rattle.rtp_media_browsers.specs.Places.{is_place_of}
+use Rattle.rtp_media_browsers.specs.Wanted.{number_from}
+use Rattle.rtp_media_browsers.specs.declared.asking.NamedWish.{NamedWish}
 use Rattle.rtp_media_browsers.specs.declared.plan.Place.{Place}
 use Rattle.rtp_media_browsers.specs.declared.plan.Place.TheVariants.{Kept, Taken}
 use Rattle.rtp_media_browsers.specs.declared.wish.Wish.{Wish}
@@ -52,16 +57,55 @@ places_step bundle wishes n ms m within is =
     ∙ (λ i. place_of bundle (slice_get wishes n) m ∷ places_from bundle wishes (sym (add-one n) i)
     (drop (sym (add-one n) i) ms))
 
--- what is wanted of a section and of those behind it
-pub wanted_step : (bundle : List (List ℕ)) (wishes : List Wish) (n : ℕ) (ms : List MediaLine) (m : MediaLine)
-    → n < length ms → m ≡ get_or ms n m
-    → wanted_from bundle wishes n (drop n ms)
-    ≡ wanted bundle (slice_get wishes n) m ++ wanted_from bundle wishes (n + 1) (drop (n + 1) ms)
-wanted_step bundle wishes n ms m within is =
-    ap (wanted_from bundle wishes n)
-    (drop-cons ms n m within ∙ ap (λ (x : MediaLine). x ∷ drop (suc n) ms) (sym is))
-    ∙ (λ i. wanted bundle (slice_get wishes n) m ++ wanted_from bundle wishes (sym (add-one n) i)
-    (drop (sym (add-one n) i) ms))
+one_answered : (p : Place) (ps : List Place) (m : MediaLine) (ms : List MediaLine)
+    → answered_places (p ∷ ps) (m ∷ ms) ≡ answered_or_new (Some p) m ∷ answered_places ps ms
+one_answered p ps m ms = refl
+
+past_answered : (ms : List MediaLine) (m : MediaLine)
+    → answered_places [] (m ∷ ms) ≡ answered_or_new None m ∷ answered_places [] ms
+past_answered ms m = refl
+
+-- the places of a section of an answer and of those behind it
+pub answered_step : (ps : List Place) (n : ℕ) (m : MediaLine) (ms : List MediaLine)
+    → answered_places (drop n ps) (m ∷ ms) ≡ answered_or_new (slice_get ps n) m ∷ answered_places (drop (suc n) ps) ms
+answered_step ps n m ms = elim (slice_get_cases ps n).1 [
+  | inl (p, within, is, got) ↦
+      ap (λ (qs : List Place). answered_places qs (m ∷ ms))
+      (drop-cons ps n p within ∙ ap (λ (q : Place). q ∷ drop (suc n) ps) got)
+      ∙ one_answered p (drop (suc n) ps) m ms
+      ∙ ap (λ (o : Option Place). answered_or_new o m ∷ answered_places (drop (suc n) ps) ms) (sym is)
+  | inr (past, none) ↦
+      ap (λ (qs : List Place). answered_places qs (m ∷ ms)) (drop_all n ps past)
+      ∙ past_answered ms m
+      ∙ (λ i. answered_or_new (sym none i) m ∷ answered_places (sym (drop_all (suc n) ps (omega arith)) i) ms)
+]
+
+pub nothing_answered : (ps : List Place) → answered_places ps [] ≡ []
+nothing_answered [] = refl
+nothing_answered (p ∷ ps) = refl
+
+-- the first wish that is for a section, from one on
+pub named_step : (mid : List ℕ) (n : ℕ) (ws : List NamedWish) (w : NamedWish) → n < length ws → w ≡ get_or ws n w
+    → named_from mid n (drop n ws)
+    ≡ cond (is_for_mid mid w) (Some n) (named_from mid (n + 1) (drop (n + 1) ws))
+named_step mid n ws w within is =
+    ap (named_from mid n) (drop-cons ws n w within ∙ ap (λ (x : NamedWish). x ∷ drop (suc n) ws) (sym is))
+    ∙ (λ i. cond (is_for_mid mid w) (Some n) (named_from mid (sym (add-one n) i) (drop (sym (add-one n) i) ws)))
+
+pub kind_step : (is_audio : Bool) (n : ℕ) (ws : List NamedWish) (w : NamedWish) → n < length ws → w ≡ get_or ws n w
+    → kind_from is_audio n (drop n ws)
+    ≡ cond (is_for_kind is_audio w) (Some n) (kind_from is_audio (n + 1) (drop (n + 1) ws))
+kind_step is_audio n ws w within is =
+    ap (kind_from is_audio n) (drop-cons ws n w within ∙ ap (λ (x : NamedWish). x ∷ drop (suc n) ws) (sym is))
+    ∙ (λ i. cond (is_for_kind is_audio w) (Some n)
+    (kind_from is_audio (sym (add-one n) i) (drop (sym (add-one n) i) ws)))
+
+-- the place of a section's name, from one on
+pub number_step : (mid : List ℕ) (n : ℕ) (ps : List Place) (p : Place) → n < length ps → p ≡ get_or ps n p
+    → number_from mid n (drop n ps) ≡ cond (is_place_of mid p) (Some n) (number_from mid (n + 1) (drop (n + 1) ps))
+number_step mid n ps p within is =
+    ap (number_from mid n) (drop-cons ps n p within ∙ ap (λ (x : Place). x ∷ drop (suc n) ps) (sym is))
+    ∙ (λ i. cond (is_place_of mid p) (Some n) (number_from mid (sym (add-one n) i) (drop (sym (add-one n) i) ps)))
 
 -- one step of a loop that puts values behind others
 pub one_more : {A : Type 0} (old new xs ys tail whole all : List A) → new ≡ old ++ xs → xs ≡ ys → whole ≡ ys ++ tail

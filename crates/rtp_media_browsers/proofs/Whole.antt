@@ -1,25 +1,24 @@
 -- Whole texts that come back.
-use Rattle.std.proofs.Common.{◌≡◌, ◌∙◌, ◌<◌, ◌≤◌, ◌+◌, ap, sym, refl, ℕ, true, Bool, List, [], ◌∷◌, map, length}
-use Rattle.std.proofs.Common.{slice_get, arith}
-use Rattle.std.proofs.Common.{IsTrue, ◌&&◌}
+use Rattle.std.proofs.Common.{◌≡◌, ◌∙◌, ap, refl, subst, ℕ, true, Bool, List, [], ◌∷◌, map, length}
+use Rattle.std.proofs.Common.{false, filter}
+use Rattle.std.proofs.Common.{arith}
 use Rattle.std.specs.List.{list_all}
-use Rattle.rtp_media_sections.specs.Lines.{mid_of}
 use Rattle.sdp_formats_data.specs.declared.media.MediaLine.{MediaLine}
 use Rattle.sdp_formats_data.specs.declared.session.Sdp.{Sdp}
 use Rattle.sdp_formats_data.specs.declared.session.Session.{Session}
-use Rattle.sdp_formats_data.specs.WholeTexts.{is_name}
-use Rattle.rtp_media_browsers.specs.ForBrowsers.{dressed_section, dressed_session, for_browser}
-use Rattle.rtp_media_browsers.specs.ForEnds.{bundled, end_section, end_session, of_sections}
-use Rattle.rtp_media_browsers.specs.Laws.{AllAccepted, ComesBack, IsEndText, NothingChanges, is_end_section, names_only}
-use Rattle.rtp_media_browsers.specs.Lines.{stays_in_session}
+use Rattle.rtp_media_browsers.specs.Following.{is_new}
+use Rattle.rtp_media_browsers.specs.ForBrowsers.{dressed_section, dressed_session, for_browser, is_in_use, shown}
+use Rattle.rtp_media_browsers.specs.ForBrowsers.{told_section}
+use Rattle.rtp_media_browsers.specs.ForEnds.{bundled, end_section, places_of, with_sections, without}
+use Rattle.rtp_media_browsers.specs.Identities.{ordered}
+use Rattle.rtp_media_browsers.specs.Laws.{AllAccepted, ComesBack, IsEndText, NothingChanges, first, is_end_section}
 use Rattle.rtp_media_browsers.specs.Names.{mids_of}
-use Rattle.rtp_media_browsers.specs.Places.{is_accepted, put_back}
-use Rattle.rtp_media_browsers.specs.Refusals.{begin_with}
+use Rattle.rtp_media_browsers.specs.declared.plan.Plan.{Plan}
 use Rattle.rtp_media_browsers.specs.declared.transport.Transport.{Transport}
 use Rattle.rtp_media_browsers.specs.declared.wish.Wish.{Wish}
 use Rattle.rtp_media_browsers.proofs.Dressed.{both_of}
-use Rattle.rtp_media_browsers.proofs.Placed.{Accepts, AreUsed, all_left, back_left}
-use Rattle.rtp_media_browsers.proofs.Returning.{in_use, media, mid_same, mids_same, sections_back, sections_same}
+use Rattle.rtp_media_browsers.proofs.Placed.{Accepts, AreUsed, all_left}
+use Rattle.rtp_media_browsers.proofs.Returning.{in_use, media, mids_same, sections_back, sections_same}
 use Rattle.rtp_media_browsers.proofs.SessionBack.{session_back, session_same}
 
 used : (ms : List MediaLine) → list_all is_end_section ms ≡ true → AreUsed ms
@@ -39,39 +38,79 @@ dressed_used t (m ∷ ms) h =
 accepts : (wishes : List Wish) (count : ℕ) → AllAccepted wishes count → Accepts wishes 0 count
 accepts wishes count all k low high = all k (omega arith)
 
-begin_same : (t : Transport) (names : List (List ℕ)) (ms : List MediaLine)
-    → begin_with names (map (dressed_section t) ms) ≡ begin_with names ms
-begin_same t [] ms = refl
-begin_same t (name ∷ names) [] = refl
-begin_same t (name ∷ names) (m ∷ ms) = λ i. is_name name (mid_same t m i) && begin_same t names ms i
+-- to an end without sections each one is new
+all_new : (ms : List MediaLine) → filter (is_new []) ms ≡ ms
+all_new [] = refl
+all_new (m ∷ ms) = ap (λ (xs : List MediaLine). m ∷ xs) (all_new ms)
+
+in_use_same : (t : Transport) (ms : List MediaLine) → list_all is_end_section ms ≡ true
+    → filter is_in_use (map (dressed_section t) ms) ≡ map (dressed_section t) ms
+unfolding is_in_use dressed_section
+in_use_same t [] h = refl
+in_use_same t (m ∷ ms) h =
+    let here = both_of (is_end_section m) (list_all is_end_section ms) h in
+    rw (in_use m here.0, in_use_same t ms here.1) refl
 
 pub nothing_changes : NothingChanges
-unfolding of_sections
+unfolding with_sections
 nothing_changes wishes sdp is all =
-    let sections = all_left (bundled sdp) wishes 0 sdp.media_lines (used sdp.media_lines is.sections)
+    let left = all_left (bundled sdp) wishes 0 sdp.media_lines (used sdp.media_lines is.sections)
     (accepts wishes (length sdp.media_lines) all) in
-    ap (of_sections sdp.session) sections
+    let same = ap (map end_section) left ∙ sections_same sdp.media_lines is.sections in
+    ap (λ (ms : List MediaLine). with_sections sdp.session (filter (is_new []) ms)) same
+    ∙ ap (with_sections sdp.session) (all_new sdp.media_lines)
     ∙ (λ i. record {
       session = session_same (mids_of sdp.media_lines) sdp.session is.session is.groups i;
-      media_lines = sections_same sdp.media_lines is.sections i;
+      media_lines = sdp.media_lines;
     })
 
+module _ (plan : Plan) (t : Transport) (sdp : Sdp) (is : IsEndText sdp) where
+  abbrev dressed : List MediaLine
+  dressed = map (dressed_section t) sdp.media_lines
+
+  abbrev own : Session
+  own = dressed_session (mids_of sdp.media_lines) plan.allows_mixed t.is_lite sdp.session
+
+  ordered_same : (b : Bool) (m : MediaLine) → ordered b [] m ≡ m
+  ordered_same true m = refl
+  ordered_same false m = refl
+
+  told_same : (ms : List MediaLine) → map (told_section (first plan) t) ms ≡ map (dressed_section t) ms
+  told_same [] = refl
+  told_same (m ∷ ms) = λ i. ordered_same plan.is_answering (dressed_section t m) i ∷ told_same ms i
+
+  -- what a browser gets of a first text
+  shown_as : for_browser (first plan) t sdp ≡ record { session = own; media_lines = dressed }
+  unfolding shown
+  shown_as =
+      let same = in_use_same t sdp.media_lines is.sections in
+      let names = ap mids_of same ∙ mids_same t sdp.media_lines in
+      ap (λ (ms : List MediaLine). shown (first plan) t sdp.session (filter (is_new []) ms)) (told_same sdp.media_lines)
+      ∙ ap (shown (first plan) t sdp.session) (all_new dressed)
+      ∙ (λ i. record {
+        session = dressed_session (names i) plan.allows_mixed t.is_lite sdp.session;
+        media_lines = dressed;
+      })
+
+  back : (wishes : List Wish) → AllAccepted wishes (length dressed)
+      → without [] (places_of wishes (record { session = own; media_lines = dressed }))
+      (record { session = own; media_lines = dressed }) ≡ sdp
+  unfolding with_sections
+  back wishes all =
+      let b : Sdp = record { session = own; media_lines = dressed } in
+      let left = all_left (bundled b) wishes 0 dressed (dressed_used t sdp.media_lines is.sections)
+      (accepts wishes (length dressed) all) in
+      let same = ap (map end_section) left ∙ sections_back t sdp.media_lines is.sections in
+      ap (λ (ms : List MediaLine). with_sections own (filter (is_new []) ms)) same
+      ∙ ap (with_sections own) (all_new sdp.media_lines)
+      ∙ (λ i. record {
+        session = session_back (mids_of sdp.media_lines) sdp.session is.session is.groups is.bundles
+            plan.allows_mixed t.is_lite i;
+        media_lines = sdp.media_lines;
+      })
+
 pub comes_back : ComesBack
-unfolding for_browser of_sections
-comes_back plan t wishes sdp is rejections enough all =
-    let ms = map (dressed_section t) sdp.media_lines in
-    let b = for_browser plan t sdp in
-    let sections = back_left (bundled b) wishes plan.places 0 ms rejections
-    (begin_same t _ sdp.media_lines ∙ enough) (dressed_used t sdp.media_lines is.sections)
-    (accepts wishes (length (put_back plan.places ms)) all) in
-    let names = mids_same t sdp.media_lines in
-    let session = dressed_session plan.allows_mixed t.is_lite sdp.session in
-    ap (of_sections session) sections
-    ∙ (λ i. record {
-      session = end_session (names i) session;
-      media_lines = map end_section ms;
-    })
-    ∙ (λ i. record {
-      session = session_back (mids_of sdp.media_lines) sdp.session is.session is.groups plan.allows_mixed t.is_lite i;
-      media_lines = sections_back t sdp.media_lines is.sections i;
-    })
+comes_back plan t wishes sdp is all =
+    let same = shown_as plan t sdp is in
+    ap (λ (b : Sdp). without [] (places_of wishes b) b) same
+    ∙ back plan t sdp is wishes (subst (λ (b : Sdp). AllAccepted wishes (length b.media_lines)) same all)

@@ -1,5 +1,5 @@
 -- What a browser gets for a text of an end (RFC 8829 5.2, 5.3, RFC 8839 5, RFC 8842 5, RFC 5761 5.1.1).
-use Rattle.std.specs.Prelude.{Bool, List, [], ◌∷◌, ◌++◌, codes, map, if◌then◌else◌}
+use Rattle.std.specs.Prelude.{ℕ, Bool, not, List, [], ◌∷◌, ◌++◌, codes, filter, map, if◌then◌else◌}
 use Rattle.std.specs.List.{flat_map}
 use Rattle.sdp_formats_data.specs.Media.{is_mid}
 use Rattle.sdp_formats_data.specs.declared.media.MediaAttribute.{MediaAttribute}
@@ -9,15 +9,16 @@ use Rattle.sdp_formats_data.specs.declared.session.Sdp.{Sdp}
 use Rattle.sdp_formats_data.specs.declared.session.Session.{Session}
 use Rattle.sdp_formats_data.specs.declared.session.SessionAttribute.{SessionAttribute}
 use Rattle.sdp_formats_data.specs.declared.session.SessionAttribute.TheVariants as session
-use Rattle.rtp_media_browsers.specs.Fit.{settled}
-use Rattle.rtp_media_browsers.specs.Lines.{mixed_words}
-use Rattle.rtp_media_browsers.specs.Places.{put_back}
+use Rattle.rtp_media_browsers.specs.Identities.{identified, ordered}
+use Rattle.rtp_media_browsers.specs.Lines.{is_bundle_name, mixed_words}
+use Rattle.rtp_media_browsers.specs.Names.{mids_of}
+use Rattle.rtp_media_browsers.specs.Places.{placed}
 use Rattle.rtp_media_browsers.specs.declared.plan.Plan.{Plan}
 use Rattle.rtp_media_browsers.specs.declared.transport.Gathering.{Gathering}
 use Rattle.rtp_media_browsers.specs.declared.transport.Gathering.TheVariants.{Trickling, Done}
 use Rattle.rtp_media_browsers.specs.declared.transport.Transport.{Transport}
 
--- Candidates come later, or these are all.
+-- ICE candidates are still to come, or these are all.
 unfoldable pub gathering_lines : Gathering → List MediaAttribute
 gathering_lines Trickling = line.IceOptions (codes "trickle") ∷ []
 gathering_lines (Done candidates) = map line.Candidate candidates ++ line.EndOfCandidates ∷ []
@@ -26,26 +27,48 @@ unfoldable pub transport_lines : Transport → List MediaAttribute
 transport_lines t = line.IceUfrag t.creds.ufrag ∷ line.IcePwd t.creds.pass ∷ (gathering_lines t.gathering
     ++ line.Fingerprint t.fingerprint ∷ line.Setup t.setup ∷ line.RtcpMux ∷ [])
 
--- An attribute, with the transport's lines behind the section's name.
+-- An attribute; `a=mid` is followed by the transport's lines.
 unfoldable pub dressed_attribute : Transport → MediaAttribute → List MediaAttribute
 dressed_attribute t attribute = attribute ∷ (if is_mid attribute then transport_lines t else [])
 
 unfoldable pub dressed_section : Transport → MediaLine → MediaLine
 dressed_section t m = record m { attrs = flat_map (dressed_attribute t) m.attrs }
 
--- What is added to the session: that header extensions are mixed, and that the end is an ICE-lite one.
+-- Lines added to the session: `a=extmap-allow-mixed`, and `a=ice-lite`.
 abbrev pub mixed_line : Bool → List SessionAttribute
 mixed_line mixed = if mixed then session.Unused mixed_words ∷ [] else []
 
 abbrev pub lite_line : Bool → List SessionAttribute
 lite_line lite = if lite then session.IceLite ∷ [] else []
 
-unfoldable pub dressed_session : Bool → Bool → Session → Session
-dressed_session mixed lite s = record s { attrs = s.attrs ++ mixed_line mixed ++ lite_line lite }
+-- A BUNDLE group of these sections (RFC 9143 7.3).
+unfoldable pub bundled_as : List (List ℕ) → SessionAttribute → SessionAttribute
+bundled_as names (session.Group typ mids) = session.Group typ (if is_bundle_name typ then names else mids)
+bundled_as names attribute = attribute
 
--- A text of an end with the transport's lines in its sections, and the sections that were taken out in their places.
-unfoldable pub for_browser : Plan → Transport → Sdp → Sdp
-for_browser plan t sdp = record {
-  session = dressed_session plan.allows_mixed t.is_lite sdp.session;
-  media_lines = put_back plan.places (map (dressed_section t) sdp.media_lines);
+-- The session, with the sections that are in use in its bundle.
+unfoldable pub dressed_session : List (List ℕ) → Bool → Bool → Session → Session
+dressed_session names mixed lite s =
+    record s { attrs = map (bundled_as names) s.attrs ++ mixed_line mixed ++ lite_line lite }
+
+unfoldable pub is_in_use : MediaLine → Bool
+is_in_use m = not m.disabled
+
+abbrev pub names_in_use : List MediaLine → List (List ℕ)
+names_in_use ms = mids_of (filter is_in_use ms)
+
+-- A session text with these sections.
+unfoldable pub shown : Plan → Transport → Session → List MediaLine → Sdp
+shown plan t s ms = record {
+  session = dressed_session (names_in_use ms) plan.allows_mixed t.is_lite s;
+  media_lines = ms;
 }
+
+-- An end's text with the transport's lines added to its sections, and the removed sections put back in their places.
+-- A section of an end as its browser is told of it.
+abbrev pub told_section : Plan → Transport → MediaLine → MediaLine
+told_section plan t m = identified plan.identity (ordered plan.is_answering plan.sections (dressed_section t m))
+
+abbrev pub for_browser : Plan → Transport → Sdp → Sdp
+for_browser plan t sdp =
+    shown plan t sdp.session (placed plan.places plan.sections (map (told_section plan t) sdp.media_lines))

@@ -1,11 +1,12 @@
 -- What holds of texts that go to a browser and come back.
-use Rattle.std.specs.Prelude.{◌≡◌, ◌<◌, ℕ, Bool, true, false, not, ◌&&◌, ◌||◌, IsTrue, List, [], ◌∷◌, filter, map}
-use Rattle.std.specs.Prelude.{length}
-use Rattle.std.specs.Prelude.{slice_get, Option, Some}
+use Rattle.std.specs.Prelude.{◌≡◌, ◌<◌, ◌+◌, ℕ, Bool, true, false, not, ◌&&◌, ◌||◌, IsTrue, List, [], ◌∷◌, filter}
+use Rattle.std.specs.Prelude.{drop, length, map, slice_get, None, Some}
 use Rattle.std.specs.List.{flat_map, list_all}
-use Rattle.rtp_media_sections.specs.Lines.{mid_of}
+use Rattle.rtp_media_sections.specs.Lines.{kind_of, mid_of, sources_in}
+use Rattle.rtp_media_sections.specs.Sections.{Wanted}
+use Rattle.rtp_wire.specs.declared.direction.Direction.TheVariants as way
 use Rattle.sdp_formats_data.specs.Lookups.{direction_of}
-use Rattle.sdp_formats_data.specs.MediaTypes.{is_media}
+use Rattle.sdp_formats_values.specs.MediaTypes.{is_media}
 use Rattle.sdp_formats_data.specs.declared.media.MediaAttribute.{MediaAttribute}
 use Rattle.sdp_formats_data.specs.declared.media.MediaLine.{MediaLine}
 use Rattle.sdp_formats_data.specs.declared.session.Sdp.{Sdp}
@@ -13,11 +14,13 @@ use Rattle.sdp_formats_data.specs.declared.session.SessionAttribute.{SessionAttr
 use Rattle.sdp_formats_data.specs.declared.session.SessionAttribute.TheVariants.{Group}
 use Rattle.sdp_formats_data.specs.Sections.{extmap_in}
 use Rattle.rtp_media_browsers.specs.ForBrowsers.{dressed_section, for_browser}
-use Rattle.rtp_media_browsers.specs.ForEnds.{places_of, without}
+use Rattle.rtp_media_browsers.specs.Following.{following, halted, is_new, section_named}
+use Rattle.rtp_media_browsers.specs.ForEnds.{end_section, places_of, without}
 use Rattle.rtp_media_browsers.specs.Lines.{is_bundle_name, is_transport, stays_in_session}
 use Rattle.rtp_media_browsers.specs.Names.{is_among, mids_of}
-use Rattle.rtp_media_browsers.specs.Places.{is_accepted, left, put_back, rejected}
-use Rattle.rtp_media_browsers.specs.Refusals.{begin_with, kept_names, name_at}
+use Rattle.rtp_media_browsers.specs.Places.{is_accepted, placed, rejected}
+use Rattle.rtp_media_browsers.specs.Refusals.{begin_with, is_found}
+use Rattle.rtp_media_browsers.specs.Wanted.{wanted_of}
 use Rattle.rtp_media_browsers.specs.declared.plan.Place.{Place}
 use Rattle.rtp_media_browsers.specs.declared.plan.Place.TheVariants.{Kept, Taken}
 use Rattle.rtp_media_browsers.specs.declared.plan.Plan.{Plan}
@@ -27,56 +30,96 @@ use Rattle.rtp_media_browsers.specs.declared.wish.Wish.{Wish}
 abbrev pub has_no_transport : List MediaAttribute → Bool
 has_no_transport attributes = list_all (λ a. not (is_transport a)) attributes
 
--- A section as an end writes it: audio or video in use, without lines of the transport.
+-- A section as an end writes it: audio or video, not rejected, without transport lines.
 abbrev pub is_end_section : MediaLine → Bool
 is_end_section m = is_media m.typ && (not m.disabled && has_no_transport m.attrs)
 
--- A group of meaning BUNDLE has these names alone.
+-- A BUNDLE group contains only these mids.
 unfoldable pub names_only : List (List ℕ) → SessionAttribute → Bool
 names_only names (Group typ mids) = not (is_bundle_name typ) || list_all (is_among names) mids
 names_only names _ = true
+
+-- A BUNDLE group contains exactly these mids.
+unfoldable pub IsBundleOf : List (List ℕ) → SessionAttribute → Type 0
+IsBundleOf names (Group typ mids) = IsTrue (is_bundle_name typ) → mids ≡ names
+IsBundleOf names _ = Unit {0}
+
+abbrev pub AreBundlesOf : List (List ℕ) → List SessionAttribute → Type 0
+AreBundlesOf names [] = Unit {0}
+AreBundlesOf names (a ∷ as') = IsBundleOf names a × AreBundlesOf names as'
 
 -- A text as an end writes it.
 pub record IsEndText (sdp : Sdp) : Type 0 where
   pub sections : IsTrue (list_all is_end_section sdp.media_lines)
   pub session : IsTrue (list_all stays_in_session sdp.session.attrs)
   pub groups : IsTrue (list_all (names_only (mids_of sdp.media_lines)) sdp.session.attrs)
+  pub bundles : AreBundlesOf (mids_of sdp.media_lines) sdp.session.attrs
 
--- Each of so many sections is wished for.
+-- Each of the first `count` sections is accepted.
 abbrev pub AllAccepted : List Wish → ℕ → Type 0
 AllAccepted wishes count = (n : ℕ) → n < count → IsTrue (is_accepted (slice_get wishes n))
 
--- What was taken out is rejected.
+-- Every removed section is rejected.
 abbrev pub AreRejections : List Place → Type 0
 AreRejections [] = Unit {0}
 AreRejections (Kept name ∷ ps) = AreRejections ps
 AreRejections (Taken r ∷ ps) = ((m : MediaLine) × (r ≡ rejected m)) × AreRejections ps
 
--- A text with nothing to take out is the same for an end.
+-- If nothing needs to be removed, a first text is unchanged for an end.
 abbrev pub NothingChanges : Type 0
 NothingChanges = (wishes : List Wish) (sdp : Sdp) → IsEndText sdp → AllAccepted wishes (length sdp.media_lines)
-    → without (places_of wishes sdp) sdp ≡ sdp
+    → without [] (places_of wishes sdp) sdp ≡ sdp
 
--- What a browser gets for a text of an end is that text for an end again.
+-- A plan of an end that has no section yet, and of which a browser is told nothing else.
+abbrev pub first : Plan → Plan
+first plan = record plan { places = []; sections = []; identity = None }
+
+-- A first text made for a browser, stripped again for an end, is the original text.
 abbrev pub ComesBack : Type 0
-ComesBack = (plan : Plan) (t : Transport) (wishes : List Wish) (sdp : Sdp) → IsEndText sdp → AreRejections plan.places
-    → IsTrue (begin_with (kept_names plan.places) sdp.media_lines)
-    → AllAccepted wishes (length (for_browser plan t sdp).media_lines)
-    → without (places_of wishes (for_browser plan t sdp)) (for_browser plan t sdp) ≡ sdp
+ComesBack = (plan : Plan) (t : Transport) (wishes : List Wish) (sdp : Sdp) → IsEndText sdp
+    → AllAccepted wishes (length (for_browser (first plan) t sdp).media_lines)
+    → without [] (places_of wishes (for_browser (first plan) t sdp)) (for_browser (first plan) t sdp) ≡ sdp
 
--- Sections with those that were taken back in their places: the others are left in their order, each that was taken
--- stands at its place, and they begin with the names of the places.
-pub record ArePlaced (ps : List Place) (ms all : List MediaLine) : Type 0 where
-  pub others : left ps all ≡ ms
+-- So is each section of any text.
+abbrev pub SectionsComeBack : Type 0
+SectionsComeBack = (t : Transport) (m : MediaLine) → IsTrue (is_end_section m) → end_section (dressed_section t m) ≡ m
+
+-- The sections that a browser gets: at its place each one that was taken out, and each of the end that has one, by its
+-- name; and behind them those that are new.
+pub record ArePlaced (ps : List Place) (olds ms all : List MediaLine) : Type 0 where
   pub taken : (n : ℕ) (r : MediaLine) → slice_get ps n ≡ Some (Taken r) → slice_get all n ≡ Some r
-  pub names : IsTrue (begin_with (map name_at ps) all)
+  pub kept : (n : ℕ) (name : List ℕ) → slice_get ps n ≡ Some (Kept name) → slice_get all n ≡ section_named ms name
+  pub added : drop (length ps) all ≡ filter (is_new olds) ms
 
-abbrev pub PutBackInPlace : Type 0
-PutBackInPlace = (ps : List Place) (ms : List MediaLine) → IsTrue (begin_with (kept_names ps) ms)
-    → ArePlaced ps ms (put_back ps ms)
+abbrev pub EachInItsPlace : Type 0
+EachInItsPlace = (ps : List Place) (olds ms : List MediaLine) → IsTrue (list_all (is_found (mids_of ms)) ps)
+    → ArePlaced ps olds ms (placed ps olds ms)
 
--- All lines of a section but the transport's stand as they stood, whichever of them are looked at: so what the section
--- says of its direction and its header extensions, its name, kind and payload types stay.
+-- Whatever a browser stops, an end is handed its own sections first and in its order. A section of the browser's is as
+-- it stands there; one that isn't there any more is inactive.
+pub record GoesOn (olds ms : List MediaLine) : Type 0 where
+  pub begins : IsTrue (begin_with (mids_of olds) (following olds ms))
+  pub length : length (following olds ms) ≡ length olds + length (filter (is_new olds) ms)
+  pub there : (n : ℕ) (old m : MediaLine) → slice_get olds n ≡ Some old → section_named ms (mid_of old) ≡ Some m
+      → slice_get (following olds ms) n ≡ Some m
+  pub stopped : (n : ℕ) (old : MediaLine) → slice_get olds n ≡ Some old → section_named ms (mid_of old) ≡ None
+      → slice_get (following olds ms) n ≡ Some (halted old)
+
+-- The sections to answer with have the names and kinds of those that the end is handed, in their order.
+pub record AreWanted (plan : Plan) (wishes : List Wish) : Type 0 where
+  pub names : map (λ (w : Wanted). w.mid) (wanted_of plan wishes) ≡ mids_of plan.sections
+  pub kinds : map (λ (w : Wanted). w.kind) (wanted_of plan wishes) ≡ map (λ (m : MediaLine). kind_of m.typ) plan.sections
+
+-- A section that is stopped keeps its name, its kind and its payload types, and no media flows.
+pub record IsHalted (m : MediaLine) : Type 0 where
+  pub name : mid_of (halted m) ≡ mid_of m
+  pub kind : (halted m).typ ≡ m.typ
+  pub types : (halted m).pts ≡ m.pts
+  pub direction : direction_of (halted m).attrs ≡ way.Inactive
+  pub sources : sources_in (halted m).attrs ≡ []
+
+-- Every line of a section that isn't a transport line keeps its position, and so do its direction, header extensions,
+-- mid, kind and payload types.
 pub record LinesStay (t : Transport) (m : MediaLine) : Type 0 where
   pub lines : (p : MediaAttribute → Bool) → ((a : MediaAttribute) → IsTrue (is_transport a) → p a ≡ false)
       → filter p (dressed_section t m).attrs ≡ filter p m.attrs
@@ -86,6 +129,6 @@ pub record LinesStay (t : Transport) (m : MediaLine) : Type 0 where
   pub types : (dressed_section t m).pts ≡ m.pts
   pub kind : (dressed_section t m).typ ≡ m.typ
 
--- The places of an offer take out rejected sections alone.
+-- Only rejected sections are removed from an offer.
 abbrev pub TakenAreRejected : Type 0
 TakenAreRejected = (wishes : List Wish) (sdp : Sdp) → AreRejections (places_of wishes sdp)

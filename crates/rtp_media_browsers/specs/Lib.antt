@@ -1,7 +1,11 @@
+pub mod Asking
 pub mod Calls
+pub mod Defaults
 pub mod Fit
+pub mod Following
 pub mod ForBrowsers
 pub mod ForEnds
+pub mod Identities
 pub mod Laws
 pub mod Lines
 pub mod Names
@@ -9,4 +13,5 @@ pub mod Places
 pub mod Reading
 pub mod Refusals
 pub mod Remotes
+pub mod Tidied
 pub mod Wanted

@@ -8,14 +8,14 @@ use Rattle.sdp_formats_data.specs.declared.session.SessionAttribute.{SessionAttr
 use Rattle.sdp_formats_data.specs.declared.session.SessionAttribute.TheVariants as session
 use Rattle.sdp_formats_grammar.specs.Split.{behind}
 
--- The words that let one-byte and two-byte header extensions stand in one stream (RFC 8285 6).
+-- The attribute that allows one-byte and two-byte header extensions in one stream (RFC 8285 6).
 abbrev pub mixed_words : List ℕ
 mixed_words = codes "extmap-allow-mixed"
 
 abbrev pub says_mixed : List ℕ → Bool
 says_mixed text = pointwise nat_eq text mixed_words
 
--- ICE (RFC 8839 5), DTLS (RFC 8842 5), and RTP with RTCP on one port (RFC 5761 5.1.1).
+-- ICE (RFC 8839 5), DTLS (RFC 8842 5) and rtcp-mux (RFC 5761 5.1.1).
 unfoldable pub is_transport : MediaAttribute → Bool
 is_transport (line.IceUfrag value) = true
 is_transport (line.IcePwd value) = true
@@ -27,7 +27,7 @@ is_transport (line.Candidate value) = true
 is_transport line.EndOfCandidates = true
 is_transport _ = false
 
--- The same before the first section, and whether header extensions are mixed.
+-- The same at session level, and `a=extmap-allow-mixed`.
 unfoldable pub is_session_transport : SessionAttribute → Bool
 is_session_transport session.AllowMixedExts = true
 is_session_transport session.IceLite = true
@@ -44,13 +44,13 @@ is_session_transport _ = false
 abbrev pub stays_in_session : SessionAttribute → Bool
 stays_in_session attribute = not (is_session_transport attribute)
 
--- Whether header extensions may be mixed.
+-- Whether one-byte and two-byte header extensions may be mixed.
 unfoldable pub allows_mixed : SessionAttribute → Bool
 allows_mixed session.AllowMixedExts = true
 allows_mixed (session.Unused value) = says_mixed value
 allows_mixed _ = false
 
--- `a=bundle-only`: port 0 doesn't reject the section (RFC 9143 6).
+-- `a=bundle-only`: port 0 doesn't mean that the section is rejected (RFC 9143 6).
 unfoldable pub is_bundle_only : MediaAttribute → Bool
 is_bundle_only (line.Unused value) = pointwise nat_eq value (codes "bundle-only")
 is_bundle_only _ = false
@@ -60,8 +60,8 @@ unfoldable pub is_crypto : MediaAttribute → Bool
 is_crypto (line.Unused value) = is_some (behind (codes "crypto:") value)
 is_crypto _ = false
 
--- An attribute stays in a section that an end reads: none of the transport's, and `a=bundle-only` where port 0 doesn't
--- stay either.
+-- An attribute that a section keeps for an end: not one of the transport; and not `a=bundle-only`, if port 0 is
+-- replaced as well.
 abbrev pub stays : Bool → MediaAttribute → Bool
 stays closed attribute = not (is_transport attribute) && not (closed && is_bundle_only attribute)
 

@@ -1,4 +1,4 @@
--- Names of sections that reading changes (RFC 5888 4).
+-- Mids that reading changes (RFC 5888 4).
 use Rattle.std.specs.Prelude.{ℕ, Bool, List, codes, map, nat_eq, Option, Some, None, if◌then◌else◌}
 use Rattle.std.specs.Cmp.Lexicographic.{pointwise}
 use Rattle.std.specs.List.{list_any}
@@ -10,7 +10,7 @@ use Rattle.sdp_formats_grammar.specs.Line.{without_return}
 use Rattle.sdp_formats_grammar.specs.Split.{behind, parts}
 use Rattle.sdp_formats_data.specs.WholeTexts.{is_name}
 
--- A name as it is read, where that is another: of more than 16 bytes, or of other signs than ASCII letters, digits and
+-- The mid as it is read, if it differs: it is longer than 16 bytes, or contains anything but ASCII letters, digits and
 -- underscores.
 abbrev pub changed : Option (List ℕ) → Option (List ℕ)
 changed None = None
@@ -20,7 +20,7 @@ changed (Some name) = if pointwise nat_eq (name_of 16 name) name then None else 
 abbrev pub changed_in : List ℕ → Option (List ℕ)
 changed_in line = changed (behind (codes "a=mid:") (without_return line))
 
--- The first name in the lines of a text that reading changes.
+-- The first mid in a text that reading changes.
 abbrev pub changed_name : List ℕ → Option (List ℕ)
 changed_name text = first_of changed_in (parts 10 text)
 

@@ -1,7 +1,7 @@
--- Why a browser's text is refused; of several reasons the first listed is answered.
-use Rattle.std.specs.Prelude.{◌≡◌, ℕ, Bool, true, false, not, ◌&&◌, ◌||◌, ◌==◌, nat_lt, List, [], ◌∷◌, count_by, length}
+-- Why a browser's text is refused; of several reasons the first in this list is given.
+use Rattle.std.specs.Prelude.{◌≡◌, ℕ, Bool, true, false, not, ◌&&◌, ◌==◌, nat_lt, List, [], ◌∷◌, count_by, length}
 use Rattle.std.specs.Prelude.{map, Option, Some, None, Result, Ok, Err, if◌then◌else◌}
-use Rattle.std.specs.List.{filter_map, list_any}
+use Rattle.std.specs.List.{list_all, list_any}
 use Rattle.std.specs.Option.{option_map, option_or}
 use Rattle.rtp_media_sections.specs.Lines.{mid_of}
 use Rattle.sdp_formats_data.specs.Lookups.{first_of}
@@ -11,7 +11,7 @@ use Rattle.sdp_formats_data.specs.declared.session.Session.{Session}
 use Rattle.sdp_formats_data.specs.Transport.{section_prints, session_prints}
 use Rattle.sdp_formats_data.specs.WholeTexts.{are_apart, is_name}
 use Rattle.rtp_media_browsers.specs.Fit.{are_ice_chars, may_say}
-use Rattle.rtp_media_browsers.specs.ForEnds.{bundled, places_of}
+use Rattle.rtp_media_browsers.specs.ForEnds.{bundled, places_behind, places_of}
 use Rattle.rtp_media_browsers.specs.Lines.{is_bundle, is_crypto}
 use Rattle.rtp_media_browsers.specs.Names.{changed_name, is_among, mids_of}
 use Rattle.rtp_media_browsers.specs.Places.{left}
@@ -23,7 +23,7 @@ use Rattle.rtp_media_browsers.specs.declared.plan.Plan.{Plan}
 use Rattle.rtp_media_browsers.specs.declared.transport.Transport.{Transport}
 use Rattle.rtp_media_browsers.specs.declared.wish.Wish.{Wish}
 
--- A test passes exactly where there is no refusal, and answers the refusal else.
+-- A check passes if and only if there is no refusal; otherwise it returns the refusal.
 abbrev pub Checks : {A : Type 0} → Option BrowserError → Result A BrowserError → Type 0
 Checks refusal (Ok a) = refusal ≡ None
 Checks refusal (Err error.Memory) = Unit {0}
@@ -35,7 +35,7 @@ refused_if b e = if b then Some e else None
 abbrev pub twice_refusal : List MediaLine → Option BrowserError
 twice_refusal ms = refused_if (not (are_apart (mids_of ms))) error.MidTwice
 
--- A name that isn't kept; a name that stands twice.
+-- A mid that reading changes; a mid that occurs twice.
 abbrev pub name_refusal : List ℕ → List MediaLine → Option BrowserError
 name_refusal text ms = option_or (option_map error.MidNotKept (changed_name text)) (twice_refusal ms)
 
@@ -46,29 +46,34 @@ outside_in bundle m = refused_if (not (is_among bundle (mid_of m))) (error.Outsi
 abbrev pub has_no_print : Session → MediaLine → Bool
 has_no_print s m = length (section_prints m) == 0 && length (session_prints s) == 0
 
--- Keys in the section, and no fingerprint.
+-- SDES keys (`a=crypto`) in the section, but no fingerprint.
 abbrev pub keys_in : Session → MediaLine → Option BrowserError
 keys_in s m = refused_if (list_any is_crypto m.attrs && has_no_print s m) (error.KeysAlone (mid_of m))
 
--- One transport is all that an end has: of these sections of the text each is in its one bundle, there is one, and none
--- has keys of another kind.
-abbrev pub bundle_refusal : Sdp → List MediaLine → Option BrowserError
-bundle_refusal sdp ms = option_or (refused_if (nat_lt 1 (count_by is_bundle sdp.session.attrs)) error.SeveralBundles)
+-- Neither the browser's text nor the end has a section.
+abbrev pub has_none : List MediaLine → List MediaLine → Bool
+has_none olds ms = length ms == 0 && length olds == 0
+
+-- An end has a single transport: there is one BUNDLE group, these sections are all in it, and none uses SDES keys
+-- alone.
+abbrev pub bundle_refusal : List MediaLine → Sdp → List MediaLine → Option BrowserError
+bundle_refusal olds sdp ms =
+    option_or (refused_if (nat_lt 1 (count_by is_bundle sdp.session.attrs)) error.SeveralBundles)
     (option_or (first_of (outside_in (bundled sdp)) ms)
-    (option_or (refused_if (length ms == 0) error.NothingLeft) (first_of (keys_in sdp.session) ms)))
+    (option_or (refused_if (has_none olds ms) error.NothingLeft) (first_of (keys_in sdp.session) ms)))
 
--- Why an offer isn't answered of which these sections are left.
-abbrev pub offer_test : List ℕ → Sdp → List MediaLine → Option BrowserError
-offer_test text sdp ms = option_or (name_refusal text sdp.media_lines) (bundle_refusal sdp ms)
+-- Why an offer isn't answered by an end with these sections, given those that remain of it.
+abbrev pub offer_test : List ℕ → List MediaLine → Sdp → List MediaLine → Option BrowserError
+offer_test text olds sdp ms = option_or (name_refusal text sdp.media_lines) (bundle_refusal olds sdp ms)
 
-abbrev pub offer_refusal : List ℕ → List Wish → Sdp → Option BrowserError
-offer_refusal text wishes sdp = offer_test text sdp (left (places_of wishes sdp) sdp.media_lines)
+abbrev pub offer_refusal : List ℕ → Plan → List Wish → Sdp → Option BrowserError
+offer_refusal text plan wishes sdp = offer_test text plan.sections sdp (left (places_of wishes sdp) sdp.media_lines)
 
 unfoldable pub name_at : Place → List ℕ
 name_at (Kept name) = name
 name_at (Taken r) = mid_of r
 
--- Whether some sections begin with those of these names.
+-- Whether the sections start with these mids.
 abbrev pub begin_with : List (List ℕ) → List MediaLine → Bool
 begin_with [] ms = true
 begin_with (name ∷ names) [] = false
@@ -77,26 +82,27 @@ begin_with (name ∷ names) (m ∷ ms) = is_name name (mid_of m) && begin_with n
 abbrev pub rejected_in : MediaLine → Option BrowserError
 rejected_in m = refused_if m.disabled (error.Rejected (mid_of m))
 
--- Why an answer isn't accepted of which these sections are left.
+-- Why an answer isn't accepted, given its remaining sections.
 abbrev pub answer_test : List ℕ → Plan → Sdp → List MediaLine → Option BrowserError
 answer_test text plan sdp ms = option_or (name_refusal text sdp.media_lines)
     (option_or (refused_if (not (begin_with (map name_at plan.places) sdp.media_lines)) error.NotCorresponding)
-    (option_or (first_of rejected_in ms) (bundle_refusal sdp ms)))
+    (option_or (first_of rejected_in ms) (bundle_refusal plan.sections sdp ms)))
 
 abbrev pub answer_refusal : List ℕ → Plan → Sdp → Option BrowserError
-answer_refusal text plan sdp = answer_test text plan sdp (left plan.places sdp.media_lines)
+answer_refusal text plan sdp = answer_test text plan sdp (left (places_behind plan sdp) sdp.media_lines)
 
-unfoldable pub kept_name : Place → Option (List ℕ)
-kept_name (Kept name) = Some name
-kept_name (Taken r) = None
+-- Whether a section of the place's name is there, if one is asked for.
+unfoldable pub is_found : List (List ℕ) → Place → Bool
+is_found names (Kept name) = is_among names name
+is_found names (Taken r) = true
 
--- The names of the sections that the end has.
-abbrev pub kept_names : List Place → List (List ℕ)
-kept_names ps = filter_map kept_name ps
+-- Whether a text has the end's sections, in order, and those of the plan.
+abbrev pub has_planned : Plan → List MediaLine → Bool
+has_planned plan ms = begin_with (mids_of plan.sections) ms && list_all (is_found (mids_of ms)) plan.places
 
--- Why a text of an end, or its transport, isn't for a browser.
+-- Why an end's text, or its transport, can't be used for a browser.
 abbrev pub browser_refusal : Plan → Transport → Sdp → Option BrowserError
 browser_refusal plan t sdp = option_or (refused_if (not (are_ice_chars 4 t.creds.ufrag)) error.UfragNotFit)
     (option_or (refused_if (not (are_ice_chars 22 t.creds.pass)) error.PasswordNotFit)
     (option_or (refused_if (not (may_say plan.is_answering t.setup plan.setup plan.remote.setup)) error.SetupNotFit)
-    (refused_if (not (begin_with (kept_names plan.places) sdp.media_lines)) error.NotCorresponding)))
+    (refused_if (not (has_planned plan sdp.media_lines)) error.NotCorresponding)))

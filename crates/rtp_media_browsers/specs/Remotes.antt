@@ -1,7 +1,7 @@
--- What a text tells of its transport: its first section, or else the session (RFC 8839 5, RFC 8842 5).
-use Rattle.std.specs.Prelude.{◌≡◌, ℕ, Bool, true, false, ◌||◌, List, [], ◌∷◌, codes, nat_eq, Option, Some, None}
+-- What a text says of its transport: in its first section, or else at session level (RFC 8839 5, RFC 8842 5).
+use Rattle.std.specs.Prelude.{◌≡◌, ℕ, Bool, false, ◌||◌, List, [], ◌∷◌, codes, nat_eq, Option, None}
 use Rattle.std.specs.Cmp.Lexicographic.{pointwise}
-use Rattle.std.specs.List.{filter_map, list_any}
+use Rattle.std.specs.List.{list_any}
 use Rattle.std.specs.Option.{option_map, option_or}
 use Rattle.sdp_formats_data.specs.Lookups.{first_of, setup_in}
 use Rattle.sdp_formats_data.specs.declared.media.MediaAttribute.{MediaAttribute}
@@ -16,11 +16,11 @@ use Rattle.sdp_formats_data.specs.Preference.{IsPreferred}
 use Rattle.sdp_formats_data.specs.Sections as sections
 use Rattle.sdp_formats_data.specs.Sessions as sessions
 use Rattle.sdp_formats_data.specs.Transport.{section_prints, session_prints}
-use Rattle.sdp_formats_data.specs.declared.IceCreds.{IceCreds}
-use Rattle.sdp_formats_data.specs.declared.Setup.{Setup}
+use Rattle.sdp_formats_values.specs.declared.candidate.IceCreds.{IceCreds}
+use Rattle.sdp_formats_values.specs.declared.setup.Setup.{Setup}
 use Rattle.rtp_media_browsers.specs.declared.plan.Remote.{Remote}
 
--- Nothing is told.
+-- Nothing is said.
 abbrev pub silent : Remote
 silent = record {
   creds = None;
@@ -31,7 +31,7 @@ silent = record {
   is_lite = false;
 }
 
--- The first list, or the second where it has nothing.
+-- The first list, or the second if the first is empty.
 abbrev pub else_of : {A : Type 0} → List A → List A → List A
 else_of [] ys = ys
 else_of (x ∷ xs) ys = x ∷ xs
@@ -69,7 +69,7 @@ pub record Tells (s : Session) (m : MediaLine) (remote : Remote) : Type 0 where
   pub trickling : remote.is_trickling ≡ (list_any trickles m.attrs || list_any session_trickles s.attrs)
   pub lite : remote.is_lite ≡ list_any sessions.is_lite s.attrs
 
--- The same by the first of some sections; of no section nothing is told.
+-- The same for the first of the sections; nothing, if there is none.
 abbrev pub TellsFirst : Session → List MediaLine → Remote → Type 0
 TellsFirst s [] remote = remote ≡ silent
 TellsFirst s (m ∷ ms) remote = Tells s m remote

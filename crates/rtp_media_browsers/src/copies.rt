@@ -2,12 +2,15 @@
 
 ghost use Rattle.std.specs.Prelude.{◌≡◌, IfOk};
 
+use crate::identity::{Identity, Said, Track};
 use crate::plan::{Place, Plan, Remote};
-use sdp_formats_data::{Candidate, Fingerprint, IceCreds, Listed};
+use sdp_formats_data::MediaLine;
+use sdp_formats_grammar::Listed;
+use sdp_formats_values::{Candidate, Fingerprint, IceCreds};
 use std::alloc::{AllocError, Global};
 
 impl Place {
-    fn clone(&self, alloc: Global) -> Result<Place, AllocError>
+    pub(crate) fn clone(&self, alloc: Global) -> Result<Place, AllocError>
         ensures { IfOk result (λ copy. copy ≡ self.now) }
     {
         match self {
@@ -42,6 +45,56 @@ impl Remote {
     }
 }
 
+impl Track {
+    fn clone(&self, alloc: Global) -> Result<Track, AllocError>
+        ensures { IfOk result (λ copy. copy ≡ self.now) }
+    {
+        Ok(Track {
+            mid: self.mid,
+            msid: self.msid.clone(alloc)?,
+        })
+    }
+}
+
+fn clone_tracks(alloc: Global, tracks: &[Track]) -> Result<Listed<Track>, AllocError>
+    ensures { IfOk result (λ copies. copies ≡ tracks.now) }
+{
+    let mut copies = Vec::new(alloc);
+    for track in tracks {
+        copies.push(track.clone(alloc)?)?;
+    }
+    Ok(Listed::of(copies))
+}
+
+impl Identity {
+    fn if_any(alloc: Global, identity: &Option<Identity>) -> Result<Option<Identity>, AllocError>
+        ensures { IfOk result (λ copy. copy ≡ identity.now) }
+    {
+        match identity {
+            Some(identity) => Ok(Some(Identity {
+                user: identity.user.clone(alloc)?,
+                cname: identity.cname.clone(alloc)?,
+                tracks: clone_tracks(alloc, identity.tracks.as_slice())?,
+            })),
+            None => Ok(None),
+        }
+    }
+}
+
+impl Said {
+    fn if_any(alloc: Global, said: &Option<Said>) -> Result<Option<Said>, AllocError>
+        ensures { IfOk result (λ copy. copy ≡ said.now) }
+    {
+        match said {
+            Some(said) => Ok(Some(Said {
+                version: said.version,
+                text: said.text.clone(alloc)?,
+            })),
+            None => Ok(None),
+        }
+    }
+}
+
 impl Plan {
     /// A copy, to go back to where an end refuses what it is handed.
     ///
@@ -53,10 +106,13 @@ impl Plan {
     {
         Ok(Plan {
             places: clone_all(alloc, self.places.as_slice())?,
+            sections: MediaLine::clone_all(alloc, self.sections.as_slice())?,
             allows_mixed: self.allows_mixed,
             remote: self.remote.clone(alloc)?,
             setup: self.setup,
             is_answering: self.is_answering,
+            identity: Identity::if_any(alloc, &self.identity)?,
+            said: Said::if_any(alloc, &self.said)?,
         })
     }
 }

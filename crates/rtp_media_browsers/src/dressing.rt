@@ -4,16 +4,21 @@ ghost use Rattle.std.specs.Prelude.{◌≡◌, ◌++◌, IfOk, OnOk, map};
 ghost use Rattle.std.specs.List.{flat_map};
 ghost use Rattle.sdp_formats_data.specs.Media.{is_mid};
 ghost use Rattle.sdp_formats_data.specs.declared.media.MediaAttribute.TheVariants as line;
-ghost use Rattle.rtp_media_browsers.specs.ForBrowsers.{dressed_attribute, dressed_section, dressed_session};
-ghost use Rattle.rtp_media_browsers.specs.ForBrowsers.{for_browser};
+ghost use Rattle.rtp_media_browsers.specs.ForBrowsers.{bundled_as, dressed_attribute, dressed_section};
+ghost use Rattle.rtp_media_browsers.specs.ForBrowsers.{dressed_session};
+ghost use Rattle.rtp_media_browsers.specs.ForBrowsers.{for_browser, is_in_use, names_in_use, shown, told_section};
 ghost use Rattle.rtp_media_browsers.specs.ForBrowsers.{gathering_lines, lite_line, mixed_line, transport_lines};
 
-use crate::placing::put_back;
+use crate::identifying::{identified, ordered};
+use crate::lines::is_bundle_name;
+use crate::placing::placed;
 use crate::plan::Plan;
 use crate::transport::{Gathering, Transport};
-use sdp_formats_data::{
-    Candidate, Listed, MediaAttribute, MediaLine, Sdp, Session, SessionAttribute, Text,
-};
+use rtp_media_sections::mid_of;
+use rtp_wire::Mid;
+use sdp_formats_data::{MediaAttribute, MediaLine, Sdp, Session, SessionAttribute};
+use sdp_formats_grammar::{Listed, Text};
+use sdp_formats_values::Candidate;
 use std::alloc::{AllocError, Global};
 use std::mem;
 
@@ -132,19 +137,67 @@ fn dressed_section(
     Ok(section)
 }
 
-/// The sections with the transport's lines.
-fn dressed_sections(
+/// A section of an end as its browser is told of it.
+fn told_section(
     alloc: Global,
+    plan: &Plan,
+    transport: &Transport,
+    section: MediaLine,
+) -> Result<MediaLine, AllocError>
+    ensures { IfOk result (λ m. m ≡ told_section plan.now transport.now section) }
+{
+    let section = dressed_section(alloc, transport, section)?;
+    let section = ordered(alloc, plan.is_answering, plan.sections.as_slice(), section)?;
+    identified(alloc, plan.identity.as_ref(), section)
+}
+
+fn told_sections(
+    alloc: Global,
+    plan: &Plan,
     transport: &Transport,
     sections: Vec<MediaLine>,
 ) -> Result<Vec<MediaLine>, AllocError>
-    ensures { IfOk result (λ v. v.items ≡ map (dressed_section transport.now) sections.items) }
+    ensures { IfOk result (λ v. v.items ≡ map (told_section plan.now transport.now) sections.items) }
 {
-    let mut dressed = Vec::new(alloc);
+    let mut told = Vec::new(alloc);
     for section in sections {
-        dressed.push(dressed_section(alloc, transport, section)?)?;
+        told.push(told_section(alloc, plan, transport, section)?)?;
     }
-    Ok(dressed)
+    Ok(told)
+}
+
+/// A session attribute; a BUNDLE group is of these sections.
+#[tactic(auto, unfolding(crate::specs::ForBrowsers::bundled_as))]
+fn bundled_as(
+    alloc: Global,
+    names: &[Mid],
+    attribute: &SessionAttribute,
+) -> Result<SessionAttribute, AllocError>
+    ensures { IfOk result (λ a. a ≡ bundled_as names.now attribute.now) }
+{
+    if let SessionAttribute::Group { typ, .. } = attribute {
+        if is_bundle_name(typ) {
+            return Ok(SessionAttribute::Group {
+                typ: typ.clone(alloc)?,
+                mids: Listed::of(Vec::from_slice(alloc, names)?),
+            });
+        }
+    }
+    attribute.clone(alloc)
+}
+
+fn all_bundled(
+    alloc: Global,
+    names: &[Mid],
+    attributes: &[SessionAttribute],
+) -> Result<Listed<SessionAttribute>, AllocError>
+    ensures { IfOk result (λ l. l ≡ map (bundled_as names.now) attributes.now) }
+{
+    let mut bundled = Listed::new(alloc);
+    for attribute in attributes {
+        bundled.push(bundled_as(alloc, names, attribute)?)?;
+    }
+    Ok(bundled)
 }
 
 /// Adds that header extensions are mixed, where they are.
@@ -176,20 +229,60 @@ fn push_lite(lite: bool, attributes: &mut Listed<SessionAttribute>) -> Result<()
 #[tactic(auto, unfolding(crate::specs::ForBrowsers::dressed_session))]
 fn dressed_session(
     alloc: Global,
+    names: &[Mid],
     mixed: bool,
     lite: bool,
     session: Session,
 ) -> Result<Session, AllocError>
-    ensures { IfOk result (λ s. s ≡ dressed_session mixed lite session) }
+    ensures { IfOk result (λ s. s ≡ dressed_session names.now mixed lite session) }
 {
     let mut session = session;
+    session.attrs = all_bundled(alloc, names, session.attrs.as_slice())?;
     push_mixed(alloc, mixed, &mut session.attrs)?;
     push_lite(lite, &mut session.attrs)?;
     Ok(session)
 }
 
+#[tactic(auto, unfolding(crate::specs::ForBrowsers::is_in_use))]
+fn is_in_use(section: &MediaLine) -> bool
+    ensures { result ≡ is_in_use section.now }
+{
+    !section.disabled
+}
+
+/// The names of the sections that are in use.
+fn names_in_use(alloc: Global, sections: &[MediaLine]) -> Result<Vec<Mid>, AllocError>
+    ensures { IfOk result (λ names. names.items ≡ names_in_use sections.now) }
+{
+    let mut names = Vec::new(alloc);
+    for section in sections {
+        if is_in_use(section) {
+            names.push(mid_of(section))?;
+        }
+    }
+    Ok(names)
+}
+
+/// A session text with these sections.
+#[tactic(auto, unfolding(crate::specs::ForBrowsers::shown))]
+fn shown(
+    alloc: Global,
+    plan: &Plan,
+    transport: &Transport,
+    session: Session,
+    sections: Listed<MediaLine>,
+) -> Result<Sdp, AllocError>
+    ensures { IfOk result (λ s. s ≡ shown plan.now transport.now session sections) }
+{
+    let names = names_in_use(alloc, sections.as_slice())?;
+    let (mixed, lite) = (plan.allows_mixed, transport.is_lite);
+    Ok(Sdp {
+        session: dressed_session(alloc, names.as_slice(), mixed, lite, session)?,
+        media_lines: sections,
+    })
+}
+
 /// A text of an end with the transport's lines, and the sections that were taken out in their places.
-#[tactic(auto, unfolding(crate::specs::ForBrowsers::for_browser))]
 pub(crate) fn dressed(
     alloc: Global,
     plan: &Plan,
@@ -202,10 +295,8 @@ pub(crate) fn dressed(
         session,
         media_lines,
     } = sdp;
-    let session = dressed_session(alloc, plan.allows_mixed, transport.is_lite, session)?;
-    let sections = dressed_sections(alloc, transport, media_lines.into_vec())?;
-    Ok(Sdp {
-        session,
-        media_lines: put_back(alloc, plan.places.as_slice(), sections)?,
-    })
+    let sections = told_sections(alloc, plan, transport, media_lines.into_vec())?;
+    let (places, olds) = (plan.places.as_slice(), plan.sections.as_slice());
+    let sections = placed(alloc, places, olds, sections.as_slice())?;
+    shown(alloc, plan, transport, session, sections)
 }

@@ -4,29 +4,31 @@ use rtp_wire::Mid;
 use std::alloc::{AllocError, AllocFailed};
 use thiserror::Error;
 
-/// Why a browser's text, or a text for one, is refused; of several reasons the first listed is answered.
+/// Why a browser's text, or a text for one, is refused; of several reasons the first in this list
+/// is returned.
 #[derive(Clone, Copy, Debug, PartialEq, Eq, Drop, Error)]
 pub enum BrowserError {
-    /// The text is no session text, or has a section with a fault.
+    /// The text isn't SDP, or has an inconsistent section.
     #[error("the text can't be read")]
     Unreadable,
-    /// A line fits nowhere, as an `m=` line of another protocol: what follows would be lost.
+    /// A line fits nowhere, such as an `m=` line with another protocol: what follows would be lost.
     #[error("the text has a rest that can't be read")]
     RestUnread,
-    /// The name of a section, as it is read, isn't the one that the text has: that is longer than 16 bytes, or has
-    /// other signs than ASCII letters, digits and underscores.
+    /// Reading changes this mid: it is longer than 16 bytes, or contains anything but ASCII
+    /// letters, digits and underscores.
     #[error("the name of section {0} can't be kept")]
     MidNotKept(Mid),
-    /// Two sections have one name.
+    /// Two sections have the same mid.
     #[error("two sections have one name")]
     MidTwice,
-    /// The sections don't begin with those of the plan, by their names.
+    /// The sections don't start with those of the plan, by mid.
     #[error("the sections are not those of the plan")]
     NotCorresponding,
-    /// The browser rejects this section of the end's offer: it is to be withdrawn, and made without the section.
+    /// The browser rejects this section of the end's offer: withdraw the offer, and make it without
+    /// the section.
     #[error("section {0} is rejected")]
     Rejected(Mid),
-    /// There are several groups of meaning BUNDLE, and so several transports.
+    /// There are several BUNDLE groups, and so several transports.
     #[error("there are several bundles")]
     SeveralBundles,
     /// This section is in no bundle, and so has a transport of its own.
@@ -35,20 +37,20 @@ pub enum BrowserError {
     /// No section is left for the end.
     #[error("no section is left")]
     NothingLeft,
-    /// This section has keys in the text, and there is no fingerprint for it.
+    /// This section has SDES keys, but there is no fingerprint for it.
     #[error("section {0} has keys and no fingerprint")]
     KeysAlone(Mid),
-    /// The name of ICE isn't 4 to 256 letters, digits, `+` and `/`.
+    /// The ICE ufrag isn't 4 to 256 letters, digits, `+` and `/`.
     #[error("the name of ICE doesn't fit")]
     UfragNotFit,
-    /// The password of ICE isn't 22 to 256 letters, digits, `+` and `/`.
+    /// The ICE password isn't 22 to 256 letters, digits, `+` and `/`.
     #[error("the password of ICE doesn't fit")]
     PasswordNotFit,
-    /// The part in the connection isn't the one that was answered before, or is the browser's own; or it is left open
-    /// in an answer.
+    /// The DTLS role isn't the one answered before, or is the browser's own; or it is actpass in an
+    /// answer.
     #[error("the setup doesn't fit")]
     SetupNotFit,
-    /// The text would not be read as what it has to say.
+    /// The text would not read back as what it should say.
     #[error("the text can't be written")]
     NotWritable,
     /// Out of memory.

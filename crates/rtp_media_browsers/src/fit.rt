@@ -1,9 +1,9 @@
-//! Credentials of ICE that fit, and who opens the connection.
+//! Valid ICE credentials, and the DTLS role.
 
 ghost use Rattle.std.specs.Prelude.{◌≡◌};
 ghost use Rattle.rtp_media_browsers.specs.Fit.{are_ice_chars, is_ice_char, is_setup, left_over, may_say, settled};
 
-use sdp_formats_data::Setup;
+use sdp_formats_values::Setup;
 
 /// Whether it is a letter, a digit, `+` or `/`.
 fn is_ice_char(byte: u8) -> bool
@@ -12,7 +12,7 @@ fn is_ice_char(byte: u8) -> bool
     byte.is_ascii_alphanumeric() || byte == b'+' || byte == b'/'
 }
 
-/// Whether a text is of at least so many such signs, and of at most 256.
+/// Whether a text consists of at least `least` and at most 256 such characters.
 pub(crate) fn are_ice_chars(least: usize, text: &str) -> bool
     ensures { result ≡ are_ice_chars least text.now }
 {
@@ -28,7 +28,7 @@ pub(crate) fn are_ice_chars(least: usize, text: &str) -> bool
     true
 }
 
-/// Whether the part is one of the two, and the same.
+/// Whether the role is active or passive, and the same as the other.
 fn is_setup(setup: Setup, other: Option<Setup>) -> bool
     ensures { result ≡ is_setup setup other }
 {
@@ -38,7 +38,7 @@ fn is_setup(setup: Setup, other: Option<Setup>) -> bool
     )
 }
 
-/// Whether a part in the connection may be said, in an answer or in an offer.
+/// Whether a DTLS role may be stated in an answer, or in an offer.
 pub(crate) fn may_say(
     is_answer: bool,
     setup: Setup,
@@ -54,7 +54,7 @@ pub(crate) fn may_say(
     }
 }
 
-/// The part that an end's text settles.
+/// The DTLS role settled after an end's text.
 pub(crate) fn settled(before: Option<Setup>, setup: Setup) -> Option<Setup>
     ensures { result ≡ settled before setup }
 {
@@ -64,7 +64,7 @@ pub(crate) fn settled(before: Option<Setup>, setup: Setup) -> Option<Setup>
     }
 }
 
-/// The part that a browser's answer leaves to the end, where none was settled before.
+/// The DTLS role that a browser's answer leaves to the end, if none was settled before.
 pub(crate) fn left_over(before: Option<Setup>, remote: Option<Setup>) -> Option<Setup>
     ensures { result ≡ left_over before remote }
 {

@@ -1,20 +1,22 @@
 //! Sections and sessions as an end reads them.
 
 ghost use Rattle.std.specs.Prelude.{◌≡◌, IfOk, filter, map};
-ghost use Rattle.rtp_media_browsers.specs.ForEnds.{end_section, end_session, of_sections, restricted};
+ghost use Rattle.rtp_media_browsers.specs.Following.{following};
+ghost use Rattle.rtp_media_browsers.specs.ForEnds.{end_section, end_session, restricted, with_sections};
 ghost use Rattle.rtp_media_browsers.specs.Lines.{stays, stays_in_session};
 ghost use Rattle.rtp_media_browsers.specs.Names.{is_among};
 
+use crate::following::following;
 use crate::lines::{is_bundle_name, is_session_transport, stays};
 use crate::names::mids_of;
 use rtp_wire::Mid;
-use sdp_formats_data::{
-    Bandwidth, Listed, MediaAttribute, MediaLine, NameSet, Sdp, Session, SessionAttribute,
-};
+use sdp_formats_data::{MediaAttribute, MediaLine, NameSet, Sdp, Session, SessionAttribute};
+use sdp_formats_grammar::Listed;
+use sdp_formats_values::Bandwidth;
 use std::alloc::{AllocError, Global};
 use std::mem;
 
-/// The attributes that stay in a section.
+/// The attributes that a section keeps.
 fn kept_attributes(closed: bool, attributes: Vec<MediaAttribute>) -> Listed<MediaAttribute>
     ensures { result ≡ filter (stays closed) attributes.items }
 {
@@ -47,7 +49,7 @@ fn names_among(alloc: Global, names: &NameSet<'_>, mids: &[Mid]) -> Result<Liste
     Ok(Listed::of(kept))
 }
 
-/// An attribute of the session; of a group of meaning BUNDLE these names alone.
+/// A session attribute; a BUNDLE group is restricted to these mids.
 #[tactic(auto, unfolding(crate::specs::ForEnds::restricted))]
 fn restricted(
     alloc: Global,
@@ -94,7 +96,7 @@ fn all_restricted(
     Ok(kept)
 }
 
-/// The session as an end reads it, with these names in its bundle.
+/// The session as an end reads it, with these mids in its BUNDLE group.
 #[tactic(auto, unfolding(crate::specs::ForEnds::end_session))]
 fn end_session(alloc: Global, names: &[Mid], session: &Session) -> Result<Session, AllocError>
     ensures { IfOk result (λ s. s ≡ end_session names.now session.now) }
@@ -119,18 +121,33 @@ fn end_sections(alloc: Global, sections: Vec<MediaLine>) -> Result<Listed<MediaL
     Ok(kept)
 }
 
-/// The text of these sections, as an end reads it.
-#[tactic(auto, unfolding(crate::specs::ForEnds::of_sections))]
-pub(crate) fn of_sections(
+/// A text of these sections, as an end reads it.
+#[tactic(auto, unfolding(crate::specs::ForEnds::with_sections))]
+fn with_sections(
     alloc: Global,
     session: &Session,
-    sections: Vec<MediaLine>,
+    sections: Listed<MediaLine>,
 ) -> Result<Sdp, AllocError>
-    ensures { IfOk result (λ sdp. sdp ≡ of_sections session.now sections.items) }
+    ensures { IfOk result (λ sdp. sdp ≡ with_sections session.now sections) }
 {
     let names = mids_of(alloc, sections.as_slice())?;
     Ok(Sdp {
         session: end_session(alloc, names.as_slice(), session)?,
-        media_lines: end_sections(alloc, sections)?,
+        media_lines: sections,
     })
+}
+
+/// The text of these sections of a browser's, as an end with old ones reads it.
+pub(crate) fn of_sections(
+    alloc: Global,
+    session: &Session,
+    olds: &[MediaLine],
+    sections: Vec<MediaLine>,
+) -> Result<Sdp, AllocError>
+    ensures { IfOk result (λ sdp. sdp
+        ≡ with_sections session.now (following olds.now (map end_section sections.items))) }
+{
+    let sections = end_sections(alloc, sections)?;
+    let all = following(alloc, olds, sections.as_slice())?;
+    with_sections(alloc, session, all)
 }

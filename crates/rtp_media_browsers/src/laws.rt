@@ -1,25 +1,40 @@
 //! Laws of texts between a browser and an end.
 
+ghost use Rattle.std.specs.Prelude.{List};
 ghost use Rattle.sdp_formats_data.specs.declared.media.MediaLine.{MediaLine};
-ghost use Rattle.rtp_media_browsers.specs.Laws.{ComesBack, LinesStay, NothingChanges, PutBackInPlace, TakenAreRejected};
+ghost use Rattle.rtp_media_browsers.specs.Laws.{AreWanted, ComesBack, EachInItsPlace, GoesOn, IsHalted, LinesStay};
+ghost use Rattle.rtp_media_browsers.specs.Laws.{NothingChanges, SectionsComeBack, TakenAreRejected};
+ghost use Rattle.rtp_media_browsers.specs.declared.plan.Plan.{Plan};
 ghost use Rattle.rtp_media_browsers.specs.declared.transport.Transport.{Transport};
+ghost use Rattle.rtp_media_browsers.specs.declared.wish.Wish.{Wish};
 
-/// What a browser gets for a text of an end is that text for an end again, where each section of it is wished for: a
-/// text as ends write them, of audio and video in use, without lines of the transport, whose bundle names its sections.
-/// And such a text is for an end as it stands.
+/// If each section is accepted, the first text made for a browser from an end's text reads, for an end, as that text
+/// again: a text as ends write them, of audio and video that isn't rejected, without transport lines, whose BUNDLE
+/// group names its sections. And such a text needs no change for an end. Of later texts each section comes back.
 pub fn return_law()
     ensures back { ComesBack }
     ensures same { NothingChanges }
+    ensures sections { SectionsComeBack }
 {}
 
-/// The sections of a browser's text are those of the end's text in their order, and those that were taken out at their
-/// places, rejected; they begin with the names of the places.
+/// A browser gets the end's sections in its own places, by their names, with the removed ones in theirs, rejected, and
+/// new ones behind them.
 pub fn places_law()
-    ensures placed { PutBackInPlace }
+    ensures placed { EachInItsPlace }
     ensures rejected { TakenAreRejected }
 {}
 
-/// Each section of an end's text stands in the browser's as it stood, but for the transport's lines.
+/// Whatever the browser stops, an end is handed its own sections first and in its order, so that it never refuses a
+/// text because one is missing; and those to answer with are the same, by name and kind. One that was stopped is
+/// inactive, and has its name, kind and payload types.
+pub fn following_law()
+    ensures goes_on { (olds ms : List MediaLine) → GoesOn olds ms }
+    ensures wanted { (plan : Plan) (wishes : List Wish) → AreWanted plan wishes }
+    ensures halted { (m : MediaLine) → IsHalted m }
+{}
+
+/// Every section of an end's text is the same in the browser's text, except for the transport's
+/// lines.
 pub fn lines_law()
     ensures { (t : Transport) (m : MediaLine) → LinesStay t m }
 {}

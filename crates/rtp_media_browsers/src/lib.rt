@@ -1,11 +1,16 @@
 //! Browsers' texts as they come: what an end is handed of them, and what a browser gets for the end's texts.
 #![tactic(auto)]
 
+mod asking;
 mod calls;
 mod copies;
+mod defaults;
 mod dressing;
 mod error;
 mod fit;
+mod following;
+mod identifying;
+mod identity;
 mod kept_lines;
 mod laws;
 mod lines;
@@ -14,14 +19,22 @@ mod placing;
 mod plan;
 mod reading;
 mod refusals;
+mod repairing;
+mod stopping;
 mod telling;
+mod tidying;
 mod transport;
+mod versions;
 mod wanted;
 mod wish;
 
-pub use calls::{answer_for_end, for_browser, for_end, sections_for};
+pub use asking::{NamedWish, Target, WishError, wishes_for};
+pub use calls::{answer_for_end, for_browser, for_end};
+pub use defaults::{map_for_browsers, rows_for_browsers};
 pub use error::BrowserError;
-pub use laws::{lines_law, places_law, return_law};
+pub use identity::{Identity, Said, Track};
+pub use laws::{following_law, lines_law, places_law, return_law};
 pub use plan::{Place, Plan, Remote};
 pub use transport::{Gathering, Transport};
+pub use wanted::sections_for;
 pub use wish::Wish;

@@ -10,10 +10,10 @@ ghost use Rattle.rtp_media_browsers.specs.Lines.{is_crypto};
 ghost use Rattle.rtp_media_browsers.specs.Lines.{is_session_transport, is_transport, says_mixed, stays};
 
 use rtp_wire::Mid;
-use sdp_formats_data::{Listed, MediaAttribute, Sdp, SessionAttribute, Text};
-use sdp_formats_grammar::stripped;
+use sdp_formats_data::{MediaAttribute, Sdp, SessionAttribute};
+use sdp_formats_grammar::{Listed, Text, stripped};
 
-/// Whether the words let header extensions be mixed.
+/// Whether the text allows one-byte and two-byte header extensions to be mixed.
 fn says_mixed(text: &Text) -> bool
     ensures { result ≡ says_mixed text.now }
 {
@@ -95,7 +95,7 @@ pub(crate) fn has_bundle_only(attributes: &[MediaAttribute]) -> bool
     attributes.iter().any(|attribute| is_bundle_only(attribute))
 }
 
-/// Whether it is a key in the text.
+/// Whether it is `a=crypto` (SDES keys).
 #[tactic(auto, unfolding(crate::specs::Lines::is_crypto))]
 fn is_crypto(attribute: &MediaAttribute) -> bool
     ensures { result ≡ is_crypto attribute.now }
@@ -127,7 +127,7 @@ pub(crate) fn is_bundle_name(typ: &Text) -> bool
     typ.as_str() == "BUNDLE"
 }
 
-/// Whether it is a group of meaning BUNDLE.
+/// Whether it is a BUNDLE group.
 #[tactic(auto, unfolding(crate::specs::Lines::is_bundle))]
 fn is_bundle(attribute: &SessionAttribute) -> bool
     ensures { result ≡ is_bundle attribute.now }
@@ -167,7 +167,7 @@ fn bundle_in(attribute: &SessionAttribute) -> Option<&Listed<Mid>>
     }
 }
 
-/// The names of the first bundle.
+/// The mids of the first BUNDLE group.
 fn first_bundle(attributes: &[SessionAttribute]) -> Option<&Listed<Mid>>
     ensures { option_copied result ≡ first_of bundle_in attributes.now }
 {

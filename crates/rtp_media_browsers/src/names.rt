@@ -1,4 +1,4 @@
-//! Names of sections that reading changes (RFC 5888 4).
+//! Mids that reading changes (RFC 5888 4).
 
 ghost use Rattle.std.specs.Prelude.{◌≡◌, IfOk};
 ghost use Rattle.rtp_media_browsers.specs.Names.{changed, changed_in, changed_name, mids_of};
@@ -21,7 +21,7 @@ fn without_return(line: &str) -> &str
     }
 }
 
-/// A name as it is read, where that is another.
+/// The mid as it is read, if that differs.
 fn changed(name: Option<&str>) -> Option<Mid>
     ensures { result ≡ changed (option_copied name.entry) }
 {

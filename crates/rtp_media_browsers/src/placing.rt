@@ -1,28 +1,28 @@
 //! The places of the sections of a browser's text.
 
-ghost use Rattle.std.specs.Prelude.{◌≡◌, ◌++◌, ◌∷◌, IfOk, List, OnOk, filter};
-ghost use Rattle.rtp_media_browsers.specs.Places.{is_bundled_only, is_map, is_taken, left, left_at, place_of};
-ghost use Rattle.rtp_media_browsers.specs.Places.{places_from, put_back, rejected, rejected_media};
+ghost use Rattle.std.specs.Prelude.{◌≡◌, ◌++◌, IfOk, OnOk, filter};
+ghost use Rattle.rtp_media_browsers.specs.Places.{at_place, is_bundled_only, is_map, is_place_of, is_taken, left};
+ghost use Rattle.rtp_media_browsers.specs.Places.{left_at, place_of, placed, places_from, rejected, rejected_media};
 ghost use Rattle.std.specs.Option.{option_copied};
-ghost use Rattle.rtp_media_browsers.specs.declared.plan.Place.{Place};
 
+use crate::following::{push_new, section_named};
 use crate::lines::has_bundle_only;
 use crate::plan::Place;
 use crate::wish::{Wish, is_accepted};
 use rtp_media_sections::mid_of;
 use rtp_wire::Mid;
-use sdp_formats_data::{Listed, MediaAttribute, MediaLine, NameSet};
+use sdp_formats_data::{MediaAttribute, MediaLine, NameSet};
+use sdp_formats_grammar::Listed;
 use std::alloc::{AllocError, Global};
-use std::vec::IntoIter;
 
-/// Whether port 0 only says that the section has no transport of its own.
-fn is_bundled_only(bundle: &NameSet<'_>, section: &MediaLine) -> bool
+/// Whether port 0 only means that the section has no transport of its own.
+pub(crate) fn is_bundled_only(bundle: &NameSet<'_>, section: &MediaLine) -> bool
     ensures { result ≡ is_bundled_only bundle.now section.now }
 {
     has_bundle_only(section.attrs.as_slice()) && bundle.has(mid_of(section))
 }
 
-/// Whether a section of an offer is taken out.
+/// Whether a section of an offer is removed.
 pub(crate) fn is_taken(bundle: &NameSet<'_>, wish: Option<&Wish>, section: &MediaLine) -> bool
     ensures { result ≡ is_taken bundle.now (option_copied wish.entry) section.now }
 {
@@ -31,7 +31,7 @@ pub(crate) fn is_taken(bundle: &NameSet<'_>, wish: Option<&Wish>, section: &Medi
         || !is_accepted(wish)
 }
 
-/// Whether it says what a payload type is.
+/// Whether it maps a payload type.
 #[tactic(auto, unfolding(crate::specs::Places::is_map))]
 fn is_map(attribute: &MediaAttribute) -> bool
     ensures { result ≡ is_map attribute.now }
@@ -68,7 +68,7 @@ fn push_rejected(
 }
 
 /// What stands in an answer for a section that is rejected.
-fn rejected(alloc: Global, section: &MediaLine) -> Result<MediaLine, AllocError>
+pub(crate) fn rejected(alloc: Global, section: &MediaLine) -> Result<MediaLine, AllocError>
     ensures { IfOk result (λ m. m ≡ rejected section.now) }
 {
     let mut attrs = Vec::new(alloc);
@@ -132,7 +132,7 @@ fn push_left(
     Ok(())
 }
 
-/// What is left of sections without those at places that are taken.
+/// The sections that aren't removed.
 pub(crate) fn left(
     alloc: Global,
     places: &[Place],
@@ -147,40 +147,49 @@ pub(crate) fn left(
     Ok(kept)
 }
 
-/// Adds the section of a place: the one that was taken, or the next of the others.
+/// The place of a section of the end, where its name is given.
+#[tactic(auto, unfolding(crate::specs::Places::is_place_of))]
+pub(crate) fn is_place_of(mid: Mid, place: &Place) -> bool
+    ensures { result ≡ is_place_of mid place.now }
+{
+    match place {
+        Place::Kept(name) => mid.as_str() == name.as_str(),
+        Place::Taken(_) => false,
+    }
+}
+
+/// Adds what a browser gets at a place.
+#[tactic(auto, unfolding(crate::specs::Places::at_place))]
 fn push_at(
     alloc: Global,
+    sections: &[MediaLine],
     place: &Place,
-    rest: &mut IntoIter<MediaLine>,
     all: &mut Listed<MediaLine>,
 ) -> Result<(), AllocError>
-    ensures { OnOk result ((ps : List Place) → all.new ++ put_back ps rest.new.rest.items
-        ≡ all.old ++ put_back (place.now ∷ ps) rest.old.rest.items) }
+    ensures { OnOk result (all.new ≡ all.old ++ at_place sections.now place.now) }
 {
     match place {
         Place::Taken(section) => all.push(section.clone(alloc)?),
-        Place::Kept(_) => match rest.next() {
-            Some(section) => all.push(section),
+        Place::Kept(name) => match section_named(sections, *name) {
+            Some(section) => all.push(section.clone(alloc)?),
             None => Ok(()),
         },
     }
 }
 
-/// Sections with those that were taken in their places.
-pub(crate) fn put_back(
+/// The sections that a browser gets: place by place, and those that are new to it.
+pub(crate) fn placed(
     alloc: Global,
     places: &[Place],
-    sections: Vec<MediaLine>,
+    olds: &[MediaLine],
+    sections: &[MediaLine],
 ) -> Result<Listed<MediaLine>, AllocError>
-    ensures { IfOk result (λ l. l ≡ put_back places.now sections.items) }
+    ensures { IfOk result (λ l. l ≡ placed places.now olds.now sections.now) }
 {
     let mut all = Listed::new(alloc);
-    let mut rest = sections.into_iter();
     for place in places {
-        push_at(alloc, place, &mut rest, &mut all)?;
+        push_at(alloc, sections, place, &mut all)?;
     }
-    for section in rest {
-        all.push(section)?;
-    }
+    push_new(alloc, olds, sections, &mut all)?;
     Ok(all)
 }

@@ -3,11 +3,11 @@
 ghost use Rattle.std.specs.Prelude.{◌≡◌, ◌↔◌, IfErr, IfOk, IsTrue};
 ghost use Rattle.std.specs.String.{string_bytes};
 ghost use Rattle.rtp_media_browsers.specs.ForEnds.{IsHanded};
-ghost use Rattle.rtp_media_browsers.specs.Reading.{IsUnwritten, IsWritten, ReadsWhole, SaysWhole};
+ghost use Rattle.rtp_media_browsers.specs.Reading.{ReadsWhole, SaysWhole};
 
 use crate::error::BrowserError;
-use sdp_formats_data::{Sdp, sdp_equality_law};
-use sdp_formats_reader::{SdpError, sdp_parser};
+use sdp_formats_data::{Sdp, SdpError, sdp_equality_law};
+use sdp_formats_reader::sdp_parser;
 use std::alloc::{AllocError, Global};
 
 /// What a text says that is read whole.
@@ -30,7 +30,7 @@ pub(crate) fn read_whole(alloc: Global, text: &str) -> Result<Sdp, BrowserError>
     }
 }
 
-/// The text of what an end is handed: the text itself, where that says the same.
+/// The text an end is given: the text itself, if nothing was removed from it.
 #[tactic(auto, unfolding(crate::specs::ForEnds::IsHanded))]
 pub(crate) fn handed(alloc: Global, text: &str, sdp: &Sdp, kept: &Sdp) -> Result<String, AllocError>
     ensures { IfOk result (λ out. IsHanded text.now sdp.now kept.now (string_bytes out)) }
@@ -47,8 +47,8 @@ pub(crate) fn handed(alloc: Global, text: &str, sdp: &Sdp, kept: &Sdp) -> Result
 /// # Errors
 ///
 /// `Memory`.
-#[tactic(auto, using(crate::proofs::Said::said_iff, crate::proofs::Said::nothing_said, crate::proofs::Said::rest_said))]
-fn is_said(alloc: Global, text: &str, sdp: &Sdp) -> Result<bool, BrowserError>
+#[tactic(auto, using(crate::proofs::Read::said_iff, crate::proofs::Read::nothing_said, crate::proofs::Read::rest_said))]
+pub(crate) fn is_said(alloc: Global, text: &str, sdp: &Sdp) -> Result<bool, BrowserError>
     ensures said { IfOk result (λ b. IsTrue b ↔ SaysWhole text.now sdp.now) }
     ensures memory { IfErr result (λ e. e ≡ BrowserError.Memory) }
 {
@@ -59,20 +59,4 @@ fn is_said(alloc: Global, text: &str, sdp: &Sdp) -> Result<bool, BrowserError>
         Err(BrowserError::RestUnread) => Ok(false),
         Err(_) => Err(BrowserError::Memory),
     }
-}
-
-/// The text of a value, where it is read as that value.
-///
-/// # Errors
-///
-/// `NotWritable` where it isn't; `Memory`.
-pub(crate) fn written(alloc: Global, sdp: &Sdp) -> Result<String, BrowserError>
-    ensures written { IfOk result (λ out. IsWritten sdp.now (string_bytes out)) }
-    ensures refused { IfErr result (λ e. IsUnwritten sdp.now e) }
-{
-    let text = sdp.to_sdp_string(alloc)?;
-    if !is_said(alloc, text.as_str(), sdp)? {
-        return Err(BrowserError::NotWritable);
-    }
-    Ok(text)
 }

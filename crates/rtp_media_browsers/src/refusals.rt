@@ -5,8 +5,9 @@ ghost use Rattle.sdp_formats_data.specs.Lookups.{first_of};
 ghost use Rattle.sdp_formats_data.specs.WholeTexts.{is_name};
 ghost use Rattle.rtp_media_browsers.specs.Names.{mids_of};
 ghost use Rattle.rtp_media_browsers.specs.Refusals.{answer_test, begin_with, browser_refusal, bundle_refusal};
-ghost use Rattle.rtp_media_browsers.specs.Refusals.{has_no_print, keys_in, kept_name, kept_names, name_at};
+ghost use Rattle.rtp_media_browsers.specs.Refusals.{has_no_print, has_planned, is_found, keys_in, name_at};
 ghost use Rattle.rtp_media_browsers.specs.Refusals.{name_refusal, offer_test};
+ghost use Rattle.std.specs.List.{list_all};
 ghost use Rattle.rtp_media_browsers.specs.Refusals.{Checks, outside_in, rejected_in, twice_refusal};
 
 use crate::error::BrowserError;
@@ -30,7 +31,7 @@ fn refuse(refusal: Option<BrowserError>) -> Result<(), BrowserError>
     }
 }
 
-/// A name that stands twice.
+/// A mid that occurs twice.
 fn twice_refusal(alloc: Global, sections: &[MediaLine]) -> Result<Option<BrowserError>, AllocError>
     ensures { IfOk result (λ r. r ≡ twice_refusal sections.now) }
 {
@@ -41,7 +42,7 @@ fn twice_refusal(alloc: Global, sections: &[MediaLine]) -> Result<Option<Browser
     Ok(Some(BrowserError::MidTwice))
 }
 
-/// A name that isn't kept; a name that stands twice.
+/// A mid that reading changes; a mid that occurs twice.
 fn name_refusal(
     alloc: Global,
     text: &str,
@@ -84,7 +85,7 @@ fn has_no_print(session: &Session, section: &MediaLine) -> bool
     section.fingerprint().is_none() && session.fingerprint().is_none()
 }
 
-/// Keys in the section, and no fingerprint.
+/// SDES keys (`a=crypto`) in the section, but no fingerprint.
 fn keys_in(session: &Session, section: &MediaLine) -> Option<BrowserError>
     ensures { result ≡ keys_in session.now section.now }
 {
@@ -105,13 +106,14 @@ fn first_with_keys(session: &Session, sections: &[MediaLine]) -> Option<BrowserE
     None
 }
 
-/// Why these sections of a text haven't one transport.
+/// Why these sections of a text for an end with old ones don't share a single transport.
 fn bundle_refusal(
     alloc: Global,
+    olds: &[MediaLine],
     sdp: &Sdp,
     sections: &[MediaLine],
 ) -> Result<Option<BrowserError>, AllocError>
-    ensures { IfOk result (λ r. r ≡ bundle_refusal sdp.now sections.now) }
+    ensures { IfOk result (λ r. r ≡ bundle_refusal olds.now sdp.now sections.now) }
 {
     if count_bundles(sdp.session.attrs.as_slice()) > 1 {
         return Ok(Some(BrowserError::SeveralBundles));
@@ -120,13 +122,13 @@ fn bundle_refusal(
     if let Some(refusal) = first_outside(&bundle, sections) {
         return Ok(Some(refusal));
     }
-    if sections.is_empty() {
+    if sections.is_empty() && olds.is_empty() {
         return Ok(Some(BrowserError::NothingLeft));
     }
     Ok(first_with_keys(&sdp.session, sections))
 }
 
-/// Tests an offer of which these sections are left.
+/// Tests an offer of which these sections are left, for an end with old ones.
 ///
 /// # Errors
 ///
@@ -135,13 +137,14 @@ fn bundle_refusal(
 pub(crate) fn test_offer(
     alloc: Global,
     text: &str,
+    olds: &[MediaLine],
     sdp: &Sdp,
     sections: &[MediaLine],
 ) -> Result<(), BrowserError>
-    ensures { Checks (offer_test text.now sdp.now sections.now) result }
+    ensures { Checks (offer_test text.now olds.now sdp.now sections.now) result }
 {
     refuse(name_refusal(alloc, text, sdp.media_lines.as_slice())?)?;
-    refuse(bundle_refusal(alloc, sdp, sections)?)
+    refuse(bundle_refusal(alloc, olds, sdp, sections)?)
 }
 
 /// A section that the browser rejects.
@@ -183,30 +186,6 @@ fn names_of(alloc: Global, places: &[Place]) -> Result<Vec<Mid>, AllocError>
     let mut names = Vec::new(alloc);
     for place in places {
         names.push(name_at(place))?;
-    }
-    Ok(names)
-}
-
-/// The name at a place, where the end has the section.
-#[tactic(auto, unfolding(crate::specs::Refusals::kept_name))]
-fn kept_name(place: &Place) -> Option<Mid>
-    ensures { result ≡ kept_name place.now }
-{
-    match place {
-        Place::Kept(name) => Some(*name),
-        Place::Taken(_) => None,
-    }
-}
-
-/// The names of the sections that the end has.
-fn kept_names(alloc: Global, places: &[Place]) -> Result<Vec<Mid>, AllocError>
-    ensures { IfOk result (λ names. names.items ≡ kept_names places.now) }
-{
-    let mut names = Vec::new(alloc);
-    for place in places {
-        if let Some(name) = kept_name(place) {
-            names.push(name)?;
-        }
     }
     Ok(names)
 }
@@ -255,7 +234,34 @@ pub(crate) fn test_answer(
         return Err(BrowserError::NotCorresponding);
     }
     refuse(first_rejected(sections))?;
-    refuse(bundle_refusal(alloc, sdp, sections)?)
+    refuse(bundle_refusal(alloc, plan.sections.as_slice(), sdp, sections)?)
+}
+
+/// Whether the section of a place is among these.
+#[tactic(auto, unfolding(crate::specs::Refusals::is_found))]
+fn is_found(names: &NameSet<'_>, place: &Place) -> bool
+    ensures { result ≡ is_found names.now place.now }
+{
+    match place {
+        Place::Kept(name) => names.has(*name),
+        Place::Taken(_) => true,
+    }
+}
+
+fn are_found(names: &NameSet<'_>, places: &[Place]) -> bool
+    ensures { result ≡ list_all (is_found names.now) places.now }
+{
+    places.iter().all(|place| is_found(names, place))
+}
+
+/// Whether a text has the end's sections, in order, and those of the plan.
+fn has_planned(alloc: Global, plan: &Plan, sections: &[MediaLine]) -> Result<bool, AllocError>
+    ensures { IfOk result (λ b. b ≡ has_planned plan.now sections.now) }
+{
+    let olds = mids_of(alloc, plan.sections.as_slice())?;
+    let mids = mids_of(alloc, sections)?;
+    let names = NameSet::of(alloc, mids.as_slice())?;
+    Ok(begin_with(olds.as_slice(), sections) && are_found(&names, plan.places.as_slice()))
 }
 
 /// Tests a text of an end, and its transport.
@@ -285,8 +291,7 @@ pub(crate) fn test_own(
     ) {
         return Err(BrowserError::SetupNotFit);
     }
-    let names = kept_names(alloc, plan.places.as_slice())?;
-    if !begin_with(names.as_slice(), sdp.media_lines.as_slice()) {
+    if !has_planned(alloc, plan, sdp.media_lines.as_slice())? {
         return Err(BrowserError::NotCorresponding);
     }
     Ok(())

@@ -10,11 +10,9 @@ ghost use Rattle.rtp_media_browsers.specs.Remotes.{Tells, TellsFirst, creds_told
 ghost use Rattle.rtp_media_browsers.specs.Remotes.{session_trickles, setup_told, trickles};
 
 use crate::plan::Remote;
-use sdp_formats_data::{
-    Candidate, Fingerprint, IceCreds, Listed, MediaAttribute, MediaLine, Session, SessionAttribute,
-    Setup,
-};
-use sdp_formats_grammar::first_part;
+use sdp_formats_data::{MediaAttribute, MediaLine, Session, SessionAttribute};
+use sdp_formats_grammar::{Listed, first_part};
+use sdp_formats_values::{Candidate, Fingerprint, IceCreds, Setup};
 use std::alloc::{AllocError, Global};
 
 /// The credentials of the section, or else of the session.

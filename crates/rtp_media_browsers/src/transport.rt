@@ -1,6 +1,7 @@
 //! The transport of an end, as a browser is told of it.
 
-use sdp_formats_data::{Candidate, Fingerprint, IceCreds, Listed, Setup};
+use sdp_formats_grammar::Listed;
+use sdp_formats_values::{Candidate, Fingerprint, IceCreds, Setup};
 
 /// How a browser reaches an end (RFC 8839, RFC 8842).
 #[derive(Debug, Drop)]
@@ -15,7 +16,7 @@ pub struct Transport {
     /// Which end opens the connection: `ActPass` in an offer, `Active` or `Passive` in an answer, and the same in each
     /// later answer (RFC 8842 5.2, 5.3).
     pub setup: Setup,
-    /// Whether the end answers connectivity checks alone (RFC 8839 5.3).
+    /// Whether the end is ICE-lite: it only answers connectivity checks (RFC 8839 5.3).
     pub is_lite: bool,
 }
 

@@ -1,23 +1,57 @@
-//! The sections that an end wants of an offer.
+//! The sections an end should answer with.
 
-ghost use Rattle.std.specs.Prelude.{◌≡◌, ◌++◌, IfErr, IfOk, OnOk};
+ghost use Rattle.std.specs.Prelude.{◌≡◌, IfOk};
 ghost use Rattle.std.specs.Option.{option_copied};
-ghost use Rattle.rtp_media_browsers.specs.Wanted.{wanted, wanted_from, wished};
+ghost use Rattle.rtp_media_browsers.specs.Wanted.{number_from, wanted, wanted_in, wanted_of, wish_at};
 
-use crate::placing::is_taken;
+use crate::placing::is_place_of;
+use crate::plan::{Place, Plan};
 use crate::wish::Wish;
 use rtp_media_sections::{SectionSpec, kind_of, mid_of};
-use rtp_wire::Mid;
-use sdp_formats_data::{MediaLine, NameSet};
+use rtp_wire::{Direction, Mid};
+use sdp_formats_data::MediaLine;
 use std::alloc::{AllocError, Global};
 
-/// Adds the section as it is wished for.
-fn push_wished(
+/// The place of the section of a name.
+fn number_of(places: &[Place], mid: Mid) -> Option<usize>
+    ensures { result ≡ number_from mid 0 places.now }
+{
+    for (number, place) in places.iter().enumerate() {
+        if is_place_of(mid, place) {
+            return Some(number);
+        }
+    }
+    None
+}
+
+impl Plan {
+    /// The place of the section of a name in the browser's texts, counted from 0, where it isn't rejected. Where the
+    /// end refuses what it was handed as `NoCommonRow`, reject the section of that name alone: make its wish `Reject`,
+    /// and go on with the plan from before (RFC 3264 6).
+    pub fn place_of(&self, mid: Mid) -> Option<usize>
+        ensures { result ≡ number_from mid 0 self.now.places }
+    {
+        number_of(self.places.as_slice(), mid)
+    }
+}
+
+/// The wish for a place.
+fn wish_at(wishes: &[Wish], number: Option<usize>) -> Option<&Wish>
+    ensures { option_copied result ≡ wish_at wishes.now number }
+{
+    match number {
+        Some(number) => wishes.get(number),
+        None => None,
+    }
+}
+
+/// A section of an end as it is wished for.
+fn wanted(
+    alloc: Global,
     wish: Option<&Wish>,
     section: &MediaLine,
-    specs: &mut Vec<SectionSpec>,
-) -> Result<(), AllocError>
-    ensures { OnOk result (specs.new.items ≡ specs.old.items ++ wished (option_copied wish.entry) section.now) }
+) -> Result<SectionSpec, AllocError>
+    ensures { IfOk result (λ w. w ≡ wanted (option_copied wish.entry) section.now) }
 {
     match wish {
         Some(
@@ -26,49 +60,53 @@ fn push_wished(
                 ssrcs,
                 repairs,
             },
-        ) => {
-            specs.push(SectionSpec {
-                mid: mid_of(section),
-                kind: kind_of(&section.typ),
-                dir: *direction,
-                ssrcs: ssrcs.clone()?,
-                repairs: repairs.clone()?,
-            })?;
-            Ok(())
-        }
-        _ => Ok(()),
+        ) => Ok(SectionSpec {
+            mid: mid_of(section),
+            kind: kind_of(&section.typ),
+            dir: *direction,
+            ssrcs: ssrcs.clone()?,
+            repairs: repairs.clone()?,
+        }),
+        _ => Ok(SectionSpec {
+            mid: mid_of(section),
+            kind: kind_of(&section.typ),
+            dir: Direction::Inactive,
+            ssrcs: Vec::new(alloc),
+            repairs: Vec::new(alloc),
+        }),
     }
 }
 
-/// Adds the section as it is wished for, where it isn't taken out.
-fn push_wanted(
-    bundle: &NameSet<'_>,
-    wish: Option<&Wish>,
-    section: &MediaLine,
-    specs: &mut Vec<SectionSpec>,
-) -> Result<(), AllocError>
-    ensures { OnOk result (specs.new.items
-        ≡ specs.old.items ++ wanted bundle.now (option_copied wish.entry) section.now) }
-{
-    if is_taken(bundle, wish, section) {
-        return Ok(());
-    }
-    push_wished(wish, section, specs)
-}
-
-/// Those of the sections of an offer with this bundle that aren't taken out.
-pub(crate) fn wanted_of(
+/// A section of the plan's end as it is wished for.
+fn wanted_in(
     alloc: Global,
-    bundle: &[Mid],
+    plan: &Plan,
     wishes: &[Wish],
-    sections: &[MediaLine],
-) -> Result<Vec<SectionSpec>, AllocError>
-    ensures { IfOk result (λ v. v.items ≡ wanted_from bundle.now wishes.now 0 sections.now) }
+    section: &MediaLine,
+) -> Result<SectionSpec, AllocError>
+    ensures { IfOk result (λ w. w ≡ wanted_in plan.now wishes.now section.now) }
 {
-    let bundle = NameSet::of(alloc, bundle)?;
+    let number = plan.place_of(mid_of(section));
+    wanted(alloc, wish_at(wishes, number), section)
+}
+
+/// The sections of an end's answer, in its order, behind `for_end` and with the wishes that it was given: each section
+/// that the end has, as it is wished for; one that was stopped or is rejected is inactive, without SSRCs.
+///
+/// # Errors
+///
+/// `AllocError` where memory runs out.
+pub fn sections_for(
+    alloc: Global,
+    plan: &Plan,
+    wishes: &[Wish],
+) -> Result<Vec<SectionSpec>, AllocError>
+    ensures { IfOk result (λ specs. specs.items ≡ wanted_of plan.now wishes.now) }
+{
     let mut specs = Vec::new(alloc);
-    for (number, section) in sections.iter().enumerate() {
-        push_wanted(&bundle, wishes.get(number), section, &mut specs)?;
+    let sections = plan.sections.as_slice();
+    for section in sections {
+        specs.push(wanted_in(alloc, plan, wishes, section)?)?;
     }
     Ok(specs)
 }

@@ -4,8 +4,8 @@ use Rattle.rtp_media_exchange.specs.Exchanges.{bare_session}
 use Rattle.rtp_media_exchange.specs.Refusals.{RefusesNew, refusal_of_new}
 use Rattle.rtp_media_exchange.specs.declared.EndError.{EndError}
 use Rattle.rtp_wire.specs.Values.{Numbering}
-use Rattle.rtp_media_exchange.specs.Rows.{Row}
-use Rattle.rtp_media_exchange.specs.Writable.{IsWritableSession}
+use Rattle.sdp_formats_rows.specs.Rows.{Row}
+use Rattle.sdp_formats_reader.specs.Writable.{IsWritableSession}
 
 bare_writable : (id : ℕ) → IsWritableSession (bare_session id)
 bare_writable id = (tt, λ k d h. absurd (omega (arith, h)))

@@ -11,7 +11,7 @@ use Rattle.rtp_wire.specs.Header.{header_in, payload_in, layout_of, IsWritable}
 use Rattle.rtp_wire.specs.Header as header
 use Rattle.rtp_wire.specs.Maps.{empty_map}
 use Rattle.rtp_wire.specs.Values.{Numbering}
-use Rattle.rtp_wire.specs.declared.ExtensionValues.{ExtensionValues}
+use Rattle.rtp_wire.specs.declared.values.ExtensionValues.{ExtensionValues}
 use Rattle.rtp_wire.specs.Padding.{unpadded}
 use Rattle.rtp_wire.specs.declared.header.RtpHeader.{RtpHeader}
 use Rattle.rtp_wire.proofs.HeaderLaws.{header_in-layout, header_in-spelled, payload_in-spelled, IsLayout-of}

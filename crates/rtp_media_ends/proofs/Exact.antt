@@ -10,8 +10,9 @@ use Rattle.h26x_payload.specs.Dispatch.{KeepCodecLawInForms}
 use Rattle.payload_core_base.specs.Format.{Format}
 use Rattle.payload_core_base.specs.Outgoing.{Outgoing}
 use Rattle.payload_core_base.specs.declared.error.PacketError.{PacketError}
-use Rattle.rtp_media_schedules.specs.Hearing.{Holding}
-use Rattle.rtp_media_schedules.specs.Hearing.{Answer, Content, EndsSilent, Event, Comes, Poll, Stream, after_events}
+use Rattle.payload_core_buffer.specs.Buffered.{Holding}
+use Rattle.payload_core_buffer.specs.Steps.{Answer}
+use Rattle.rtp_media_schedules.specs.Hearing.{Content, EndsSilent, Event, Comes, Poll, Stream, after_events}
 use Rattle.rtp_media_schedules.specs.Hearing.{fresh}
 use Rattle.rtp_media_schedules.specs.Hearing.{handed_out, heard, number_at, taken_by}
 use Rattle.rtp_media_schedules.specs.SentSamples.{Timed, timed_unit}

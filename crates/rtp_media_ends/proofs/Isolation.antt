@@ -9,7 +9,7 @@ use Rattle.std.proofs.lemmas.List.Quantifiers.{position-Some}
 use Rattle.std.proofs.lemmas.List.Folds.{position_or_len-set}
 use Rattle.rtp_wire.specs.Header.{header_in}
 use Rattle.rtp_wire.specs.Maps.{empty_map}
-use Rattle.rtp_wire.specs.declared.ExtensionValues.{ExtensionValues}
+use Rattle.rtp_wire.specs.declared.values.ExtensionValues.{ExtensionValues}
 use Rattle.rtp_wire.specs.declared.header.RtpHeader.{RtpHeader}
 use Rattle.payload_core_base.specs.Format.{Format}
 use Rattle.rtp_media_schedules.specs.Hearing.{Stream, Event, heard_step, after_events}
@@ -18,9 +18,9 @@ use Rattle.rtp_media_streams.specs.Receiving.{Receiving, brought, is_own, values
 use Rattle.rtp_media_streams.specs.Rows.{format_of}
 use Rattle.rtp_media_streams.specs.Types.{is_repair_key, is_type}
 use Rattle.rtp_media_stream_table.specs.declared.open_stream.OpenStream.{OpenStream}
-use Rattle.rtp_media_stream_table.specs.declared.open_stream.OpenStream.TheVariants.{Sender, Receiver}
+use Rattle.rtp_media_stream_table.specs.declared.open_stream.OpenStream.TheVariants.{Closed, Sender, Receiver}
 use Rattle.rtp_media_ends.specs.Ends.{EndState}
-use Rattle.rtp_media_stream_table.specs.Streams.{is_sending, no_receiver, nth_receiver, nth_stream}
+use Rattle.rtp_media_stream_table.specs.Streams.{is_receiving, no_receiver, nth_receiver, nth_stream}
 use Rattle.rtp_media_ends.specs.Ends.{receiver_at}
 use Rattle.rtp_media_stream_table.specs.Streams.{receiving_of}
 use Rattle.rtp_media_stream_table.specs.Arrivals.{own_of, arrival_for, arrival_by, stream_for}
@@ -39,7 +39,7 @@ nobody = Receiver no_receiver
 
 -- other things kept in one receiving stream: the streams are found as before
 pub stream_for-set : (ss : List OpenStream) (m : ℕ) (s : Stream) (ssrc pt : ℕ)
-    → is_sending (nth_stream ss m) ≡ false
+    → is_receiving (nth_stream ss m) ≡ true
     → stream_for (slice_set ss m (Receiver (with_stream (nth_receiver ss m) s))) ssrc pt ≡ stream_for ss ssrc pt
 stream_for-set ss m s ssrc pt receives =
     ap₂ (λ (p n : ℕ). if nat_lt p n then Some p else None)
@@ -47,15 +47,16 @@ stream_for-set ss m s ssrc pt receives =
     (as_before (nth_stream ss m) receives))
     (length-set ss m (Receiver (with_stream (nth_receiver ss m) s)))
   where
-    as_before : (x : OpenStream) → is_sending x ≡ false
+    as_before : (x : OpenStream) → is_receiving x ≡ true
         → takes ssrc pt (Receiver (with_stream (receiving_of x) s)) ≡ takes ssrc pt x
-    as_before (Sender t) h = absurd (true≢false h)
+    as_before (Sender t) h = absurd (true≢false (sym h))
+    as_before Closed h = absurd (true≢false (sym h))
     as_before (Receiver r) h = refl
 
 -- a stream that takes datagrams of an SSRC and a type
 record Takes (ss : List OpenStream) (ssrc pt m : ℕ) : Type 0 where
   within : m < length ss
-  receives : is_sending (nth_stream ss m) ≡ false
+  receives : is_receiving (nth_stream ss m) ≡ true
   own : is_own (nth_receiver ss m) ssrc pt ≡ true
 
 found-own : (ss : List OpenStream) (ssrc pt m : ℕ) → stream_for ss ssrc pt ≡ Some m → Takes ss ssrc pt m
@@ -65,8 +66,9 @@ found-own ss ssrc pt m e =
     record { within = f.0; receives = taken.0; own = taken.1 }
   where
     by : (x : OpenStream) → takes ssrc pt x ≡ true
-        → (is_sending x ≡ false) × (is_own (receiving_of x) ssrc pt ≡ true)
+        → (is_receiving x ≡ true) × (is_own (receiving_of x) ssrc pt ≡ true)
     by (Sender s) h = absurd (true≢false (sym h))
+    by Closed h = absurd (true≢false (sym h))
     by (Receiver r) h = (refl, h)
 
 -- what is known of the end after an arrival
@@ -80,7 +82,7 @@ unchanged e n = record { stream = refl; found = λ ssrc pt. refl }
 
 -- an arrival at the stream itself
 here : (e : EndState) (n : ℕ) (h : RtpHeader) (v : ExtensionValues) (p : Option Wrapped) → n < length e.streams
-    → is_sending (nth_stream e.streams n) ≡ false → Heard1 e n (content_event h v p) (after_arrival e (own_of n h v p))
+    → is_receiving (nth_stream e.streams n) ≡ true → Heard1 e n (content_event h v p) (after_arrival e (own_of n h v p))
 here e n h v None lt receives = unchanged e n
 here e n h v (Some w) lt receives = record {
   stream = ap receiving_of (get_or-set_same e.streams n _ nobody lt);
@@ -89,7 +91,7 @@ here e n h v (Some w) lt receives = record {
 
 -- an arrival at another stream
 there : (e : EndState) (n m : ℕ) (h : RtpHeader) (v : ExtensionValues) (p : Option Wrapped) → n ≢ m
-    → is_sending (nth_stream e.streams m) ≡ false → Heard1 e n None (after_arrival e (own_of m h v p))
+    → is_receiving (nth_stream e.streams m) ≡ true → Heard1 e n None (after_arrival e (own_of m h v p))
 there e n m h v None ne receives = unchanged e n
 there e n m h v (Some w) ne receives = record {
   stream = ap receiving_of (get_or-set_other e.streams m n _ nobody ne);
@@ -98,7 +100,7 @@ there e n m h v (Some w) ne receives = record {
 
 -- one datagram, by whether it is the stream's own
 step-by : (e : EndState) (n : ℕ) (h : RtpHeader) (d : List ℕ) (own : Bool) (o : Option ℕ) → n < length e.streams
-    → is_sending (nth_stream e.streams n) ≡ false → IsFound e n (receiver_at e n) →
+    → is_receiving (nth_stream e.streams n) ≡ true → IsFound e n (receiver_at e n) →
     is_own (receiver_at e n) h.ssrc h.payload_type ≡ own → stream_for e.streams h.ssrc h.payload_type ≡ o →
     Heard1 e n (if own then content_event h (values_read (receiver_at e n).map d)
     (brought (receiver_at e n).ssrc (receiver_at e n).types h d) else None)
@@ -117,7 +119,7 @@ step-by e n h d true o lt receives known b f =
     lt receives)
 
 step-header : (e : EndState) (n : ℕ) (d : List ℕ) (o : Option RtpHeader) → n < length e.streams
-    → is_sending (nth_stream e.streams n) ≡ false → IsFound e n (receiver_at e n) →
+    → is_receiving (nth_stream e.streams n) ≡ true → IsFound e n (receiver_at e n) →
     Heard1 e n (event_by (receiver_at e n) o d) (after_arrival e (arrival_by e.streams o d))
 step-header e n d None lt receives known = unchanged e n
 step-header e n d (Some h) lt receives known = step-by e n h d (is_own (receiver_at e n) h.ssrc h.payload_type)
@@ -140,7 +142,7 @@ found-there e n r known = found-own e.streams r.ssrc r.types.pt n
 pub is-there : (e : EndState) (n : ℕ) (r : Receiving) → IsFound e n r → n < length e.streams
 is-there e n r known = (found-there e n r known).within
 
-pub is-receiving : (e : EndState) (n : ℕ) (r : Receiving) → IsFound e n r → is_sending (nth_stream e.streams n) ≡ false
+pub is-receiving : (e : EndState) (n : ℕ) (r : Receiving) → IsFound e n r → is_receiving (nth_stream e.streams n) ≡ true
 is-receiving e n r known = (found-there e n r known).receives
 
 -- one datagram
@@ -191,7 +193,7 @@ isolated (d ∷ ds) e n r same known =
 pub found-after : (ds : List (List ℕ)) (e : EndState) (n : ℕ) (r : Receiving) → receiver_at e n
     ≡ with_stream r (receiver_at e n).stream → IsFound e n r
     → (n < length (after_datagrams e ds).streams)
-    × (is_sending (nth_stream (after_datagrams e ds).streams n) ≡ false)
+    × (is_receiving (nth_stream (after_datagrams e ds).streams n) ≡ true)
 found-after [] e n r same known = (is-there e n r known, is-receiving e n r known)
 found-after (d ∷ ds) e n r same known = found-after ds (after_datagram e d) n r (same-again e n r d same known)
     (known-again e n r d same known)

@@ -1,5 +1,3 @@
-pub use Rattle.rtp_media_stream_table.proofs.NewReceiver
-pub use Rattle.rtp_media_exchange.proofs.OneAgreement
 pub mod BareSession
 pub mod Beside
 pub mod Datagrams

@@ -2,8 +2,8 @@
 use Rattle.std.proofs.Common.{◌≡◌, ℕ, refl, sym, ◌∙◌, ap, Bool, true, false, List}
 use Rattle.std.specs.Prelude.{Option, Some, None, if◌then◌else◌}
 use Rattle.std.specs.List.{list_any}
-use Rattle.rtp_media_exchange.specs.Agreement.{Agreed, is_named, own_row_agrees, row_in, section_of}
-use Rattle.rtp_media_exchange.specs.Rows.{Row}
+use Rattle.rtp_media_sections.specs.Agreement.{Agreed, is_named, own_row_agrees, row_in, section_of}
+use Rattle.sdp_formats_rows.specs.Rows.{Row}
 use Rattle.rtp_media_ends.specs.Ends.{EndState, carried, carried_row, is_carried, receiver_refusal_in}
 use Rattle.rtp_media_ends.specs.Ends.{receiver_refusal_of, refusal_by, refusal_of_open_receiver}
 use Rattle.rtp_media_stream_table.specs.Streams.{receives_as}

@@ -7,11 +7,11 @@ use Rattle.std.specs.Prelude.{Option, Some, None, is_some, unwrap_or, ◌==◌, 
 use Rattle.h26x_payload.specs.Codings.{first_sender, has_format, forms_for}
 use Rattle.h26x_payload.specs.Dispatch.{FirstIsReached}
 use Rattle.rtp_wire.specs.Values.{Numbering}
-use Rattle.rtp_media_exchange.specs.Rows.{Row}
+use Rattle.sdp_formats_rows.specs.Rows.{Row}
 use Rattle.rtp_media_streams.specs.Rows.{coding_in, first_state, settings_in}
 use Rattle.rtp_media_streams.specs.Sending.{opened_sender}
 use Rattle.rtp_media_streams.proofs.Configured.{reached-in-forms}
-use Rattle.rtp_media_exchange.specs.Agreement.{agreed_row_of, own_repairs_of}
+use Rattle.rtp_media_sections.specs.Agreement.{agreed_row_of, own_repairs_of}
 use Rattle.rtp_media_streams.specs.declared.types.PayloadTypes.{PayloadTypes}
 use Rattle.rtp_media_ends.specs.Repairs.{IsKeyBeside}
 use Rattle.rtp_media_ends.specs.Ends.{EndState, is_carried, is_red_of, new_sender, red_in, row_format_in}

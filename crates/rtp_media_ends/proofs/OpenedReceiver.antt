@@ -4,9 +4,9 @@ use Rattle.std.proofs.Common.{List, length}
 use Rattle.std.proofs.lemmas.List.{get_or_push}
 use Rattle.std.specs.Prelude.{Option, Some, None}
 use Rattle.std.specs.List.{list_any}
-use Rattle.rtp_media_exchange.specs.Agreement.{Agreed, remote_repairs_in, row_in, row_of_section, section_of}
-use Rattle.rtp_media_exchange.specs.Rows.{Row}
-use Rattle.rtp_media_schedules.specs.Hearing.{Holding}
+use Rattle.rtp_media_sections.specs.Agreement.{Agreed, remote_repairs_in, row_in, row_of_section, section_of}
+use Rattle.sdp_formats_rows.specs.Rows.{Row}
+use Rattle.payload_core_buffer.specs.Buffered.{Holding}
 use Rattle.rtp_media_streams.specs.Receiving.{Receiving}
 use Rattle.rtp_media_streams.specs.declared.types.PayloadTypes.{PayloadTypes}
 use Rattle.rtp_media_stream_table.specs.declared.open_stream.OpenStream.TheVariants.{Receiver}

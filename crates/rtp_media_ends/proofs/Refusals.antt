@@ -2,10 +2,9 @@
 use Rattle.std.proofs.Common.{◌≡◌, ℕ, Bool, List, refl, ◌∙◌, ap}
 use Rattle.std.specs.Prelude.{Option, Some}
 use Rattle.std.specs.List.{list_any}
-use Rattle.rtp_media_exchange.specs.Rows.{Row}
-use Rattle.rtp_media_exchange.specs.Agreement.{Agreed, agreed_row_of, is_named, own_row_agrees, row_in}
-use Rattle.rtp_media_exchange.specs.Agreement.{row_of_section}
-use Rattle.rtp_media_exchange.specs.Agreement.{section_of}
+use Rattle.sdp_formats_rows.specs.Rows.{Row}
+use Rattle.rtp_media_sections.specs.Agreement.{Agreed, agreed_row_of, is_named, own_row_agrees, row_in, row_of_section}
+use Rattle.rtp_media_sections.specs.Agreement.{section_of}
 use Rattle.rtp_media_stream_table.specs.declared.open_stream.OpenStream.{OpenStream}
 use Rattle.rtp_media_ends.specs.Ends.{carried_row, receiver_refusal_in, refusal_by}
 use Rattle.rtp_media_stream_table.specs.Streams.{receives_as}

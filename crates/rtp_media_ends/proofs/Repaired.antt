@@ -12,7 +12,7 @@ use Rattle.rtp_wire.specs.Header.{is_header, payload_in, u16_at, values_in}
 use Rattle.rtp_wire.specs.Layout.{Layout, IsLayout, layout_bytes}
 use Rattle.rtp_wire.specs.Maps.{empty_map}
 use Rattle.rtp_wire.specs.Padding.{unpadded}
-use Rattle.rtp_wire.specs.declared.ExtensionValues.{ExtensionValues}
+use Rattle.rtp_wire.specs.declared.values.ExtensionValues.{ExtensionValues}
 use Rattle.rtp_wire.specs.declared.header.RtpHeader.{RtpHeader}
 use Rattle.rtp_wire.proofs.HeaderLaws.{header_in-layout}
 use Rattle.rtp_wire.specs.Repairs.{Wrapped, readdressed, repair_of, wrapped_in}

@@ -9,7 +9,7 @@ use Rattle.rtp_wire.specs.declared.header.RtpHeader.{RtpHeader}
 use Rattle.rtp_wire.proofs.HeaderLaws.{IsLayout-of}
 use Rattle.payload_core_base.specs.Outgoing.{Outgoing, outgoing}
 use Rattle.payload_core_audio.specs.RedHistory.{Redundancy, keeping}
-use Rattle.rtp_media_schedules.specs.Hearing.{Holding}
+use Rattle.payload_core_buffer.specs.Buffered.{Holding}
 use Rattle.rtp_media_streams.specs.Receiving.{opened_receiver}
 use Rattle.rtp_media_streams.specs.Redundant.{wrapped}
 use Rattle.rtp_media_streams.specs.Sending.{Sample, Sending, after_sample, after_samples, datagram_of, datagrams_from}

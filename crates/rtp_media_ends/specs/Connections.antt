@@ -7,12 +7,11 @@ use Rattle.rtp_media_exchange.specs.Refusals.{MayAccept, MayAnswer, Refuses, Ref
 use Rattle.rtp_media_exchange.specs.Refusals.{refusal_of_offer}
 use Rattle.rtp_media_exchange.specs.Says.{AgreesOnText}
 use Rattle.rtp_media_exchange.specs.declared.ExchangeError.{ExchangeError}
-use Rattle.rtp_media_exchange.specs.Agreement.{Agreed, agreed_map_of, agreed_row_of, own_repairs_of}
-use Rattle.rtp_media_exchange.specs.Agreement.{remote_repairs_of}
-use Rattle.rtp_media_exchange.specs.Sections.{Wanted}
+use Rattle.rtp_media_sections.specs.Agreement.{Agreed, agreed_map_of, agreed_row_of, own_repairs_of, remote_repairs_of}
+use Rattle.rtp_media_sections.specs.Sections.{Wanted}
 use Rattle.rtp_media_ends.specs.Ends.{EndState, with_exchange}
 
--- The end that offers, its offer pending.
+-- The offering end, with its offer pending.
 abbrev pub offering : EndState → List Wanted → EndState
 offering a sections = with_exchange a (with_offer a.exchange (Some sections))
 
@@ -20,8 +19,8 @@ offering a sections = with_exchange a (with_offer a.exchange (Some sections))
 abbrev pub offer_text : EndState → List Wanted → List ℕ
 offer_text a sections = sdp_text (offer_of a.exchange sections)
 
--- One end offered, the other one answered that text, and the first accepted the answer's, each where
--- nothing refuses it; their streams stay.
+-- One end offered, the other answered that offer, and the first accepted the answer, none of these calls being refused;
+-- their streams don't change.
 pub record Connects (a b : EndState) (sections_a sections_b : List Wanted) (offer answer : List ℕ)
     (after_a after_b : EndState) : Type 0 where
   pub may_offer : refusal_of_offer a.exchange sections_a ≡ None
@@ -33,27 +32,27 @@ pub record Connects (a b : EndState) (sections_a sections_b : List Wanted) (offe
   pub streams_a : after_a ≡ with_exchange a after_a.exchange
   pub streams_b : after_b ≡ with_exchange b after_b.exchange
 
--- Two ends have exchanged texts: what each agreed on is what the answer's text says, and each takes the repairs that
--- the other one names.
+-- Two ends have exchanged texts: each agreed on what the answer says, and each takes the RTX pairs that the other
+-- names.
 pub record HaveExchanged (answer : List ℕ) (a b : EndState) : Type 0 where
   pub first : AgreesOnText answer a.exchange.agreed
   pub second : AgreesOnText answer b.exchange.agreed
   pub repairs_to : (mid : List ℕ) → own_repairs_of a.exchange.agreed mid ≡ remote_repairs_of b.exchange.agreed mid
   pub repairs_from : (mid : List ℕ) → own_repairs_of b.exchange.agreed mid ≡ remote_repairs_of a.exchange.agreed mid
 
--- Both have one row of each type, and one map of header extensions, in each section.
+-- In each section both have the same row for every payload type, and the same map of header extensions.
 pub record HaveOneAgreement (a b : List Agreed) : Type 0 where
   pub rows : (mid : List ℕ) (pt : ℕ) → agreed_row_of a mid pt ≡ agreed_row_of b mid pt
   pub maps : (mid : List ℕ) → agreed_map_of a mid ≡ agreed_map_of b mid
 
--- The call that is refused.
+-- Which call is refused.
 pub data Stage : Type 0 where
   AtOffer : Stage
   AtAnswer : (offer : List ℕ) → Stage
   AtAccept : (offer answer : List ℕ) → Stage
 
--- Nothing changes at a refused offer; behind it the offer stays pending, and a refused acceptance leaves
--- the other end agreed. The calls before the refused one were not refused.
+-- After a refused offer nothing has changed; after a refused answer the offer is still pending; after a refused accept
+-- the answering end has agreed. The calls before were accepted.
 abbrev pub RefusedAt : Stage → EndState → EndState → List Wanted → List Wanted → ExchangeError
     → EndState → EndState → Type 0
 RefusedAt AtOffer a b sections_a sections_b e after_a after_b =

@@ -3,20 +3,19 @@ use Rattle.std.specs.Prelude.{Option, Some, None, if◌then◌else◌, unwrap_or
 use Rattle.std.specs.List.{list_any}
 use Rattle.rtp_wire.specs.Maps.{empty_map}
 use Rattle.rtp_wire.specs.Values.{Numbering}
-use Rattle.rtp_media_schedules.specs.Hearing.{Holding}
-use Rattle.rtp_media_streams.specs.Codings.{has_format}
+use Rattle.payload_core_buffer.specs.Buffered.{Holding}
+use Rattle.h26x_payload.specs.Codings.{has_format}
 use Rattle.rtp_media_streams.specs.Sending.{Sending, opened_sender, redundant_sender}
 use Rattle.rtp_media_streams.specs.Receiving.{Receiving, opened_receiver}
 use Rattle.rtp_media_streams.specs.declared.row_format.RowFormat.{RowFormat}
 use Rattle.rtp_media_streams.specs.declared.types.PayloadTypes.{PayloadTypes}
 use Rattle.rtp_media_streams.specs.declared.types.RepairKey.{RepairKey}
-use Rattle.rtp_media_exchange.specs.Rows.{Row}
-use Rattle.rtp_media_exchange.specs.Configs.{Config}
+use Rattle.sdp_formats_rows.specs.Rows.{Row}
+use Rattle.sdp_formats_rounds.specs.Configs.{Config}
 use Rattle.rtp_media_exchange.specs.Exchanges.{Exchanged, fresh, fixed}
 use Rattle.sdp_formats_data.specs.declared.session.Session.{Session}
-use Rattle.rtp_media_exchange.specs.Agreement.{Agreed, agreed_map_of, agreed_row_of, is_named, own_row_agrees}
-use Rattle.rtp_media_exchange.specs.Agreement.{own_repairs_of, remote_repairs_of, row_in}
-use Rattle.rtp_media_exchange.specs.Agreement.{section_of}
+use Rattle.rtp_media_sections.specs.Agreement.{Agreed, agreed_map_of, agreed_row_of, is_named, own_row_agrees}
+use Rattle.rtp_media_sections.specs.Agreement.{own_repairs_of, remote_repairs_of, row_in, section_of}
 use Rattle.rtp_media_sections.specs.Repairs.{repairing_of}
 use Rattle.rtp_media_stream_table.specs.declared.open_stream.OpenStream.{OpenStream}
 use Rattle.rtp_media_stream_table.specs.declared.open_stream.OpenStream.TheVariants.{Sender, Receiver}
@@ -26,7 +25,7 @@ use Rattle.rtp_media_ends.specs.declared.errors.OpenError.TheVariants.{NoSection
 use Rattle.rtp_media_ends.specs.declared.errors.OpenError.TheVariants.{WrongDirection, SsrcNotNamed}
 use Rattle.rtp_media_ends.specs.declared.errors.OpenError.TheVariants.{AlreadyOpen}
 use Rattle.rtp_media_stream_table.specs.Streams.{is_nth_receiver, is_nth_sender, no_row_format, no_types, nth_receiver}
-use Rattle.rtp_media_stream_table.specs.Streams.{nth_sender, receives_as, sends_as, set_receiver, set_sender}
+use Rattle.rtp_media_stream_table.specs.Streams.{nth_sender, receives_as, sends_as, set_closed, set_receiver, set_sender}
 
 -- What an end keeps: its exchanges, and its streams of both directions by number.
 pub record EndState : Type 0 where
@@ -41,40 +40,44 @@ end_of exchange streams = record { exchange = exchange; streams = streams }
 abbrev pub with_streams : EndState → List OpenStream → EndState
 with_streams e streams = end_of e.exchange streams
 
--- The end with this stream in place of its n-th.
+-- The end with its n-th stream replaced.
 abbrev pub with_sender : EndState → ℕ → Sending → EndState
 with_sender e n s = with_streams e (set_sender e.streams n s)
 
 abbrev pub with_receiver : EndState → ℕ → Receiving → EndState
 with_receiver e n r = with_streams e (set_receiver e.streams n r)
 
--- The end after an exchange: its streams stay.
+-- The end with its n-th stream closed.
+abbrev pub without_stream : EndState → ℕ → EndState
+without_stream e n = with_streams e (set_closed e.streams n)
+
+-- The end after an exchange; its streams don't change.
 abbrev pub with_exchange : EndState → Exchanged → EndState
 with_exchange e x = end_of x e.streams
 
--- The end with one stream more.
+-- The end with one more stream.
 abbrev pub with_new_sender : EndState → Sending → EndState
 with_new_sender e s = with_streams e (e.streams ++ Sender s ∷ [])
 
 abbrev pub with_new_receiver : EndState → Receiving → EndState
 with_new_receiver e r = with_streams e (e.streams ++ Receiver r ∷ [])
 
--- The SSRC and type of a stream's repairs (RFC 4588 8.1 and 8.3): the SSRC that repairs the stream's, where it is
--- another one, and the row's type for retransmissions, where it has 7 bits.
+-- The SSRC and payload type of a stream's retransmissions (RFC 4588 8.1 and 8.3): the RTX SSRC, if it differs from the
+-- stream's, and the row's RTX type, if it is below 128.
 abbrev pub key_of : ℕ → Option ℕ → Option ℕ → Option RepairKey
 key_of ssrc (Some pt) (Some repair) =
     if nat_le pt 127 && not (repair == ssrc) then Some (record { ssrc = repair; pt = pt }) else None
 key_of ssrc None repair = None
 key_of ssrc (Some pt) None = None
 
--- The payload types of a row's stream under an SSRC, which this one repairs; and whose sender names these repairs.
+-- The payload types of a row's stream under an SSRC with this RTX SSRC; and with the RTX SSRC that its sender names.
 abbrev pub types_by : Row → ℕ → Option ℕ → PayloadTypes
 types_by row ssrc repair = record { pt = row.pt; red = row.red; repair = key_of ssrc row.resend repair }
 
 abbrev pub types_of : Row → ℕ → List (ℕ × ℕ) → PayloadTypes
 types_of row ssrc repairs = types_by row ssrc (repairing_of repairs ssrc)
 
--- What a row says of its payloads.
+-- A row's payload format.
 abbrev pub row_format_of : Row → RowFormat
 row_format_of row = record {
   codec = row.spec.codec;
@@ -90,7 +93,7 @@ sender_at e n = nth_sender e.streams n
 abbrev pub receiver_at : EndState → ℕ → Receiving
 receiver_at e n = nth_receiver e.streams n
 
--- The n-th stream, which receives, did this, and all else stays.
+-- The n-th stream, a receiving one, did this; nothing else changes.
 abbrev pub AtReceiver : EndState → ℕ → (Receiving → Receiving → Type 0) → EndState → Type 0
 AtReceiver e n Did after =
     Did (receiver_at e n) (receiver_at after n) × (after ≡ with_receiver e n (receiver_at after n))
@@ -101,12 +104,12 @@ is_sender_at e n = is_nth_sender e.streams n
 abbrev pub is_receiver_at : EndState → ℕ → Bool
 is_receiver_at e n = is_nth_receiver e.streams n
 
--- A RED type has 7 bits and is another than the row's.
+-- A RED type is below 128, and isn't the row's own type.
 abbrev pub is_red_of : ℕ → Option ℕ → Bool
 is_red_of pt None = true
 is_red_of pt (Some red) = nat_le red 127 && not (red == pt)
 
--- Whether a stream can carry a row: its codec has a payload format, and its types have 7 bits and are distinct.
+-- Whether a stream can carry a row: its codec has a payload format, and its payload types are below 128 and distinct.
 abbrev pub is_carried : Row → Bool
 is_carried row = has_format row.spec.codec && (nat_le row.pt 127 && is_red_of row.pt row.red)
 
@@ -114,18 +117,18 @@ abbrev pub carried : Option Row → Option Row
 carried None = None
 carried (Some row) = if is_carried row then Some row else None
 
--- The section's row of a type, where a stream can carry it.
+-- The section's row with this payload type, if a stream can carry it.
 abbrev pub carried_row : Agreed → ℕ → Option Row
 carried_row a pt = carried (row_in a.rows pt)
 
--- Why there is no such row: the section has none of the type, or one of no payload format or of a type above 127; a row
--- whose RED type is none beside its own can't be the end's own, so it differs.
+-- Why there is no such row: the section has no row of that type; or its codec has no payload format, or its type is
+-- above 127; or its RED type is invalid, and then no own row can agree with it, so the error is RowDiffers.
 abbrev pub refusal_of_row : Option Row → OpenError
 refusal_of_row None = RowNotAgreed
 refusal_of_row (Some row) = if has_format row.spec.codec && nat_le row.pt 127 then RowDiffers else RowNotAgreed
 
--- Why no stream of a section's row can be opened, by whether the end's own row agrees with it, the section flows this
--- way, its sender names the SSRC in it, and such a stream is open: the first that holds.
+-- Why no stream can be opened for a row, the first that applies: the end's own row doesn't agree with it; media doesn't
+-- flow this way; the sender doesn't name the SSRC; such a stream is already open.
 abbrev pub refusal_by : Bool → Bool → Bool → Bool → Option OpenError
 refusal_by agrees flows names is_open =
     if not agrees then Some RowDiffers
@@ -154,12 +157,12 @@ abbrev pub receiver_refusal_in : List Row → Option Agreed → List OpenStream 
 receiver_refusal_in own None streams ssrc pt = Some NoSection
 receiver_refusal_in own (Some a) streams ssrc pt = receiver_refusal_of own a streams ssrc pt (carried_row a pt)
 
--- Why `open_sender` is refused, lack of memory aside.
+-- Why `open_sender` is refused, not counting lack of memory.
 unfoldable pub refusal_of_open_sender : EndState → List ℕ → ℕ → ℕ → Option OpenError
 refusal_of_open_sender e mid ssrc pt =
     sender_refusal_in e.exchange.config.rows (section_of e.exchange.agreed mid) e.streams ssrc pt
 
--- Why `open_receiver` is refused, lack of memory aside.
+-- Why `open_receiver` is refused, not counting lack of memory.
 unfoldable pub refusal_of_open_receiver : EndState → List ℕ → ℕ → ℕ → Option OpenError
 refusal_of_open_receiver e mid ssrc pt =
     receiver_refusal_in e.exchange.config.rows (section_of e.exchange.agreed mid) e.streams ssrc pt
@@ -196,7 +199,7 @@ receiver_types e mid ssrc pt =
 abbrev pub agreed_red : EndState → List ℕ → ℕ → Option ℕ
 agreed_red e mid pt = red_in (agreed_row_of e.exchange.agreed mid pt)
 
--- A new stream, which adds redundancy under the RED type where distances are given.
+-- The new stream; it adds redundancy with the RED type if distances are given.
 abbrev pub with_distances : Sending → Option ℕ → Option (List ℕ) → Sending
 with_distances s red None = s
 with_distances s red (Some distances) = redundant_sender s (unwrap_or red 0) distances
@@ -209,7 +212,7 @@ row_sender ssrc types row exts params =
     params.mtu params.limit)
     row.red params.red
 
--- The stream that an end opens to send: the agreed row under the agreed map.
+-- The stream an end opens to send: the agreed row and the agreed extension map.
 abbrev pub new_sender : EndState → List ℕ → ℕ → ℕ → StreamParams → Sending
 new_sender e mid ssrc pt params =
     with_distances
@@ -217,12 +220,12 @@ new_sender e mid ssrc pt params =
     params.for_browsers params.first params.mtu params.limit)
     (agreed_red e mid pt) params.red
 
--- The stream that it opens to receive that row under that map.
+-- The stream it opens to receive the same row and map.
 abbrev pub new_receiver : EndState → List ℕ → ℕ → ℕ → Holding → Receiving
 new_receiver e mid ssrc pt holding =
     opened_receiver ssrc (receiver_types e mid ssrc pt) (stream_map e mid) (agreed_format e mid pt) holding
 
--- The end with a sending stream more.
+-- The end with one more sending stream.
 unfoldable pub after_open_sender : EndState → List ℕ → ℕ → ℕ → StreamParams → EndState
 after_open_sender e mid ssrc pt params = with_new_sender e (new_sender e mid ssrc pt params)
 

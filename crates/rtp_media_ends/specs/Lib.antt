@@ -1,13 +1,3 @@
-pub use Rattle.rtp_media_exchange.specs.Agreement
-pub use Rattle.rtp_media_exchange.specs.Answered
-pub use Rattle.rtp_media_stream_table.specs.Arrivals
-pub use Rattle.rtp_media_exchange.specs.Exchanges
-pub use Rattle.rtp_media_exchange.specs.Offers
-pub use Rattle.rtp_media_stream_table.specs.Polled
-pub use Rattle.rtp_media_exchange.specs.Refusals
-pub use Rattle.rtp_media_exchange.specs.Rows
-pub use Rattle.rtp_media_exchange.specs.Sections
-pub use Rattle.rtp_media_stream_table.specs.Streams
 pub mod Connections
 pub mod EndArrivals
 pub mod Ends

@@ -3,14 +3,14 @@ use Rattle.std.specs.Option.{ForSome}
 use Rattle.payload_core_audio.specs.RedHistory.{AreDistances}
 use Rattle.rtp_media_ends.specs.declared.params.StreamParams.{StreamParams}
 
--- Redundancy is for rows with a RED type alone: a payload has a byte more, and the distances rise and are
+-- Redundancy needs a row with a RED type; the payload limit must be at least 2; the distances must be increasing, from
 -- 1 to 8.
 abbrev pub IsRedundancy : Option ℕ → ℕ → Option (List ℕ) → Type 0
 IsRedundancy red mtu None = Unit {0}
 IsRedundancy None mtu (Some distances) = ⊥
 IsRedundancy (Some red) mtu (Some distances) = (2 ≤ mtu) × AreDistances distances
 
--- What a stream of a row with this RED type, or without one, may be opened with.
+-- Valid parameters for a stream of a row with this RED type, or none.
 pub record IsSound (red : Option ℕ) (p : StreamParams) : Type 0 where
   pub first : p.first < 32768
   pub mtu : 0 < p.mtu
@@ -21,7 +21,7 @@ abbrev pub is_picture_id : Option ℕ → Bool
 is_picture_id None = true
 is_picture_id (Some id) = nat_le id 32767
 
--- Whether numbers rise above this one, and are at most 8.
+-- Whether the numbers are increasing, above this one, and at most 8.
 abbrev pub rise_above : ℕ → List ℕ → Bool
 rise_above least [] = true
 rise_above least (d ∷ ds) = nat_lt least d && (nat_le d 8 && rise_above d ds)

@@ -5,19 +5,19 @@ use Rattle.rtp_media_streams.specs.Receiving.{Receiving}
 use Rattle.rtp_media_streams.specs.declared.types.RepairKey.{RepairKey}
 use Rattle.rtp_media_streams.specs.Sending.{Sending}
 
--- Repairs come under another SSRC than the stream's, and their SSRC and type fit a header.
+-- Retransmissions have a different SSRC than the stream, and their SSRC and type fit a header.
 abbrev pub IsKeyBeside : ℕ → Option RepairKey → Type 0
 IsKeyBeside ssrc None = Unit {0}
 IsKeyBeside ssrc (Some key) = (key.ssrc ≢ ssrc) × (key.pt < 128) × (key.ssrc < 2 ^ 32)
 
--- The receiving stream is for the sending one.
+-- The receiving stream is the counterpart of the sending one.
 pub record TakesRepairs (r : Receiving) (s : Sending) : Type 0 where
   pub ssrc : r.ssrc ≡ s.ssrc
   pub types : r.types ≡ s.types
   pub beside : IsKeyBeside s.ssrc s.types.repair
   pub number : s.repairs < 65536
 
--- A header stands in front of a datagram, in its spelling.
+-- The datagram starts with a header, correctly spelled.
 pub record IsHeaded (datagram : List ℕ) : Type 0 where
   pub layout : Layout
   pub rest : List ℕ

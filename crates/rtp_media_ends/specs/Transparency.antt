@@ -4,8 +4,8 @@ use Rattle.rtp_media_streams.specs.Sending.{Sample, Sending, packet_limit}
 use Rattle.rtp_media_streams.specs.Receiving.{Receiving}
 use Rattle.rtp_media_ends.specs.FullArrival.{AreSound, IsSender, count_of}
 
--- Two streams of one SSRC, types, map, row, forms, next number, limit of packets and state of the packetizer, of
--- which the first adds no redundancy.
+-- Two streams that agree in SSRC, payload types, map, row, options, next number, packet limit and packetizer state; the
+-- first adds no redundancy.
 pub record AreTwins (plain redundant : Sending) : Type 0 where
   pub ssrc : redundant.ssrc ≡ plain.ssrc
   pub types : redundant.types ≡ plain.types
@@ -26,7 +26,7 @@ pub record Receives (r : Receiving) (s : Sending) : Type 0 where
   pub types : r.types ≡ s.types
   pub map : r.map ≡ s.map
 
--- Samples that a stream sends, and numbers of their datagrams in any order, once, more often or never.
+-- Samples a stream sends, and numbers of their datagrams, in any order, each any number of times.
 pub record AreSent (s : Sending) (samples : List Sample) (numbers : List ℕ) : Type 0 where
   pub sound : AreSound s samples
   pub in_range : All (λ n. (s.next ≤ n) × (n < s.next + count_of s samples)) numbers

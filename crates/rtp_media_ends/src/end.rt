@@ -3,21 +3,26 @@
 ghost use Rattle.std.specs.Prelude.{◌≡◌, ◌≢◌, ◌≤◌, Some, None, Ok, Err, true, length, OnOk, OnErr, IfOk, IfErr};
 ghost use Rattle.rtp_media_streams.specs.Repairing.{repair, with_repair};
 ghost use Rattle.rtp_media_streams.specs.Sending.{HasFailed, sent_datagrams, after_sample, refusal_of_sample};
-ghost use Rattle.rtp_media_exchange.specs.Agreement.{agreed_row_of};
+ghost use Rattle.rtp_media_streams.specs.Sending.{skipped_to};
+ghost use Rattle.rtp_media_sections.specs.Agreement.{agreed_row_of};
 ghost use Rattle.rtp_media_ends.specs.Ends.{agreed_red, fixed_end, sender_at, with_sender, is_receiver_at};
 ghost use Rattle.rtp_media_ends.specs.Ends.{is_sender_at};
 
+mod closing;
 mod exchanges;
+mod forwarding;
 mod openings;
 mod receive_all;
 mod receiving;
 
 pub use exchanges::connect;
 pub use receive_all::ReceivedAll;
-use rtp_media_exchange::{AgreedSection, EndError, Exchange, PayloadParams};
+use rtp_media_exchange::{EndError, Exchange};
+use rtp_media_sections::AgreedSection;
 use rtp_media_stream_table::StreamTable;
 use rtp_media_streams::{Datagram, RepairError, SampleError};
 use rtp_wire::{ExtensionValues, Frequency, MediaTime, Mid, Pt};
+use sdp_formats_rows::PayloadParams;
 use std::alloc::Global;
 use std::marker::Model;
 
@@ -28,7 +33,7 @@ pub struct End {
     streams: StreamTable,
 }
 
-/// Written by hand so that crates that drop this type need no proof about its fields.
+/// Written by hand, so that crates that drop this type need no proof about its fields.
 impl Drop for End {
     fn drop(self) {
         let End {
@@ -86,8 +91,8 @@ impl End {
         self.exchange.agreed(mid)?.row_of(pt)
     }
 
-    /// The RED type of that row (RFC 2198): a sending stream of it may add redundancy exactly where there
-    /// is one.
+    /// The RED type of that row (RFC 2198): a sending stream of it may add redundancy if and only
+    /// if it has one.
     pub fn agreed_red(&self, mid: Mid, pt: Pt) -> Option<Pt>
         ensures { result ≡ agreed_red self.now mid pt }
     {
@@ -117,6 +122,31 @@ impl End {
         ensures { result ≡ (sender_at self.now stream).row.clock_rate }
     {
         self.streams.clock_rate(stream)
+    }
+
+    /// The number that the next datagram of a sending stream's samples gets.
+    ///
+    /// # Conditions
+    /// The number is that of a sending stream: [`End::is_sender`].
+    pub fn next_number(&self, stream: usize) -> u64
+        requires { is_sender_at self.now stream ≡ true }
+        ensures { result ≡ (sender_at self.now stream).next }
+    {
+        self.streams.next_number(stream)
+    }
+
+    /// Leaves numbers of a sending stream out: those from its next number up to this one are never sent by a sample. A
+    /// number that isn't above the next one changes nothing. With [`End::next_number`], streams of one SSRC and several
+    /// payload types can be numbered as one (RFC 3550 5.1), as receivers and SRTP ask.
+    ///
+    /// # Conditions
+    /// The number is that of a sending stream: [`End::is_sender`].
+    pub fn skip_to(&mut self, stream: usize, number: u64)
+        requires { is_sender_at self.old stream ≡ true }
+        ensures { self.new ≡ with_sender self.old stream (skipped_to (sender_at self.old stream) number) }
+    {
+        let streams = &mut self.streams;
+        streams.skip_to(stream, number);
     }
 
     /// The datagrams of a sample, which a sending stream sends: its packets of at most `mtu` bytes,

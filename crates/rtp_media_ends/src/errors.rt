@@ -9,21 +9,22 @@ pub enum OpenError {
     /// No section of this name is agreed.
     #[error("no such section is agreed")]
     NoSection,
-    /// The answer's section has no row of this type, or one of a codec without a payload format, or of a type above
-    /// 127.
+    /// The answer's section has no row with this payload type, or its codec has no payload format,
+    /// or its type is above 127.
     #[error("no row of this type is agreed")]
     RowNotAgreed,
-    /// The end's own row of this type is missing, isn't locked, or means something else, as where the agreed row's RED
-    /// type is its own type.
+    /// The end's own row with this type is missing, not locked, or different; also if the agreed
+    /// row's RED type equals its own type.
     #[error("the end's own row differs from the agreed one")]
     RowDiffers,
     /// The section does not flow this way.
     #[error("the section does not flow this way")]
     WrongDirection,
-    /// The sender's section does not name this SSRC.
+    /// The sender's section doesn't name this SSRC.
     #[error("the sender's section does not name this SSRC")]
     SsrcNotNamed,
-    /// A stream of this direction has this SSRC and a type in common with this one, its RED type counted.
+    /// A stream in this direction has this SSRC and a payload type (RED included) in common with
+    /// this one.
     #[error("such a stream is open already")]
     AlreadyOpen,
     /// Out of memory.

@@ -17,8 +17,8 @@ ghost use Rattle.rtp_media_ends.specs.OwnEvents.{event_in, own_events};
 
 use h26x_payload::codec_law;
 
-/// What datagrams do to a receiving stream is what its own ones do, those of its SSRC and payload types,
-/// whatever else came between them.
+/// What datagrams do to a receiving stream depends only on its own, those with its SSRC and payload
+/// types, whatever else came in between.
 pub fn isolation_law()
     ensures { (end : EndState) (datagrams : List (List ℕ)) (stream : ℕ) → let receiver = receiver_at end stream in
         IsFound end stream receiver →
@@ -26,9 +26,9 @@ pub fn isolation_law()
         ≡ after_events (format_of receiver.row) receiver.stream (own_events receiver datagrams) }
 {}
 
-/// A repair is an arrival (RFC 4588 4): what a sending stream returns is to its receiving stream what the datagram is
-/// that it wraps, the arrival of that one's number with its content (`arrives`); and `receive` says and does with it
-/// what it does with the datagram (`received`).
+/// A retransmission counts as an arrival (RFC 4588 4): to the receiving stream it is the datagram
+/// that it repeats, with that one's number and content (`arrives`); and `receive` answers and does
+/// the same for both (`received`).
 pub fn repairs_law()
     ensures arrives { (receiver : Receiving) (sender : Sending) (datagram bytes : List ℕ) →
         TakesRepairs receiver sender → IsHeaded datagram → repair sender datagram ≡ Ok bytes →
@@ -40,8 +40,8 @@ pub fn repairs_law()
         (verdict_of end bytes ≡ verdict_of end datagram) × (after_datagram end bytes ≡ after_datagram end datagram) }
 {}
 
-/// Redundancy is transparent: whatever datagrams of a list of samples arrive, and in whatever order, a
-/// stream with redundancy and one without it bring a receiving stream the same.
+/// Redundancy is transparent: whichever datagrams of a list of samples arrive, in whatever order,
+/// streams with and without redundancy give a receiving stream the same.
 pub fn transparency_law()
     ensures { (plain redundant : Sending) (receiver : Receiving) (samples : List Sample) (numbers : List ℕ) →
         AreTwins plain redundant → Receives receiver plain → AreSent plain samples numbers →
@@ -51,9 +51,9 @@ pub fn transparency_law()
     codec_law();
 }
 
-/// Nothing refuses an opening exactly where the end may open a stream: the section is agreed, it has a row of the
-/// payload type, which the end's own row agrees with, it flows this way, its sender names the SSRC in it, and no
-/// such stream is open.
+/// Opening is not refused if and only if the end may open the stream: the section is agreed; it has
+/// a row with the payload type, and the end's own row agrees with it; media flows this way; its
+/// sender names the SSRC in it; and no such stream is open.
 pub fn openings_law()
     ensures sends { (end : EndState) (mid : List ℕ) (ssrc pt : ℕ) →
         (refusal_of_open_sender end mid ssrc pt ≡ None) ↔ SendsAt end mid ssrc pt }

@@ -5,8 +5,8 @@ ghost use Rattle.std.specs.Prelude.{IsSome, IsSomeAnd, unwrap_or};
 ghost use Rattle.std.specs.List.{list_any};
 ghost use Rattle.std.specs.Option.{option_map};
 ghost use Rattle.payload_core_audio.specs.RedHistory.{AreDistances};
-ghost use Rattle.rtp_media_exchange.specs.Agreement.{agreed_map_of};
-ghost use Rattle.rtp_media_schedules.specs.Hearing.{holding_of, may_hold};
+ghost use Rattle.rtp_media_sections.specs.Agreement.{agreed_map_of};
+ghost use Rattle.payload_core_buffer.specs.Buffered.{holding_of, may_hold};
 ghost use Rattle.rtp_media_ends.specs.Ends.{agreed_red, end_of, is_carried, new_receiver, new_sender};
 ghost use Rattle.rtp_media_stream_table.specs.Streams.{receives_as};
 ghost use Rattle.rtp_media_ends.specs.Ends.{refusal_of_open_receiver, refusal_of_open_sender};
@@ -21,10 +21,11 @@ use crate::openings::{receiver_row, sender_row};
 use crate::params::{Distances, StreamParams};
 use crate::rows::row_format_of;
 use h26x_payload::codec_law;
-use rtp_media_exchange::{Exchange, PayloadParams};
+use rtp_media_exchange::Exchange;
 use rtp_media_stream_table::StreamTable;
 use rtp_media_streams::{PayloadTypes, ReceivingStream, SendingStream};
 use rtp_wire::{ExtensionMap, Mid, Pt, Ssrc};
+use sdp_formats_rows::PayloadParams;
 use std::alloc::{AllocError, Global};
 
 /// The sending stream of this SSRC that an end of these exchanges and streams opens for the agreed row of a payload

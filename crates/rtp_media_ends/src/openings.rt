@@ -2,8 +2,8 @@
 
 ghost use Rattle.std.specs.Prelude.{◌≡◌, ◌<◌, Some, None, true, false, OnOk, IfOk, IfErr, IfSome};
 ghost use Rattle.std.specs.List.{list_any};
-ghost use Rattle.rtp_media_exchange.specs.Agreement.{agreed_row_of, own_repairs_of, remote_repairs_of, row_in};
-ghost use Rattle.rtp_media_exchange.specs.Agreement.{section_of};
+ghost use Rattle.rtp_media_sections.specs.Agreement.{agreed_row_of, own_repairs_of, remote_repairs_of, row_in};
+ghost use Rattle.rtp_media_sections.specs.Agreement.{section_of};
 ghost use Rattle.rtp_media_ends.specs.Repairs.{IsKeyBeside};
 ghost use Rattle.rtp_media_ends.specs.Ends.{carried_row, end_of, is_carried, refusal_by};
 ghost use Rattle.rtp_media_stream_table.specs.Streams.{receives_as};
@@ -13,10 +13,12 @@ ghost use Rattle.rtp_media_ends.specs.Ends.{types_of};
 
 use crate::errors::OpenError;
 use crate::rows::{has_payload, is_carried, types_of};
-use rtp_media_exchange::{AgreedSection, Exchange, PayloadParams};
+use rtp_media_exchange::Exchange;
+use rtp_media_sections::AgreedSection;
 use rtp_media_stream_table::StreamTable;
 use rtp_media_streams::PayloadTypes;
 use rtp_wire::{Mid, Pt, Ssrc};
+use sdp_formats_rows::PayloadParams;
 
 /// The row that a new sending stream sends, and its types, or why there is none.
 #[tactic(auto, unfolding(crate::specs::Ends::refusal_of_open_sender))]
@@ -84,7 +86,7 @@ pub(crate) fn receiver_row(
     }
 }
 
-/// Why no stream of a section's row can be opened, by what holds of both: the first reason.
+/// Why no stream can be opened for a section's row: the first reason that applies.
 fn opening_refusal(agrees: bool, flows: bool, names: bool, is_open: bool) -> Option<OpenError>
     ensures { result ≡ refusal_by agrees flows names is_open }
 {

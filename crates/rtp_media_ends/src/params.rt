@@ -7,8 +7,8 @@ ghost use Rattle.rtp_media_ends.specs.Params.{IsSound, is_redundancy, is_sound_p
 use rtp_wire::Pt;
 use std::marker::Model;
 
-/// How many payloads back those stand that each payload is sent behind (RFC 2198): rising, 1 to 8. Where
-/// there are none, payloads have the layout of redundancy without any.
+/// The distances of the older payloads sent with each payload (RFC 2198): increasing, from 1 to 8.
+/// If empty, payloads have the RED layout without redundancy.
 #[derive(Debug, Drop)]
 pub struct Distances {
     distances: Vec<u8>,
@@ -43,18 +43,19 @@ impl Distances {
 pub struct StreamParams {
     /// The first sequence number, below 32,768.
     pub first: u64,
-    /// The most bytes of a payload, at least 1, and at least 2 with redundancy.
+    /// The maximum payload size in bytes: at least 1, with redundancy at least 2.
     pub mtu: usize,
-    /// The most bytes of a datagram.
+    /// The maximum datagram size in bytes.
     pub limit: usize,
     /// The distances of redundancy (RFC 2198): None for a stream without it, and for a row without a RED
     /// type.
     pub red: Option<Distances>,
     /// The first picture id of a row of VP8 or VP9, at most 32,767; payloads of other codecs have none.
     pub picture_id: Option<u16>,
-    /// Whether the payloads have the forms that browsers want: VP8's picture id 0 is written like any other
-    /// (RFC 7741 4.2), and VP9's packets say of each frame whether it is predicted (RFC 9628 4.2). Without it VP8
-    /// frames of id 0 have no id, and all VP9 frames count as key frames; payloads of other codecs are the same.
+    /// Whether payloads use the options that browsers need: VP8's picture id 0 is written like any
+    /// other (RFC 7741 4.2), and VP9's packets say whether their frame is predicted (RFC 9628 4.2).
+    /// Otherwise VP8 frames with id 0 carry no id, and all VP9 frames look like key frames. Other
+    /// codecs' payloads don't change.
     pub for_browsers: bool,
 }
 

@@ -1,17 +1,17 @@
 //! What a row says of a stream.
 
 ghost use Rattle.std.specs.Prelude.{◌≡◌, ◌<◌, ◌&&◌, nat_le, IfSome};
-ghost use Rattle.rtp_media_streams.specs.Codings.{has_format};
+ghost use Rattle.h26x_payload.specs.Codings.{has_format};
 ghost use Rattle.rtp_media_ends.specs.Ends.{is_carried, is_red_of, key_of, row_format_of, types_by};
 ghost use Rattle.rtp_media_ends.specs.Repairs.{IsKeyBeside};
 
 use h26x_payload::has_format;
-use rtp_media_exchange::PayloadParams;
 use rtp_media_streams::{PayloadTypes, RepairKey, RowFormat};
 use rtp_wire::{Pt, Ssrc};
+use sdp_formats_rows::PayloadParams;
 
-/// The SSRC and type of a stream's repairs (RFC 4588 8.1 and 8.3): the SSRC that repairs the stream's, where it is
-/// another one, and the row's type for retransmissions, where it has 7 bits.
+/// The SSRC and payload type of a stream's retransmissions (RFC 4588 8.1 and 8.3): the RTX SSRC, if
+/// it differs from the stream's, and the row's RTX type, if it is below 128.
 fn key_of(ssrc: Ssrc, pt: Option<Pt>, repair: Option<Ssrc>) -> Option<RepairKey>
     ensures value { result ≡ key_of ssrc pt repair }
     ensures beside { IsKeyBeside ssrc result }
@@ -39,7 +39,7 @@ pub(crate) fn types_of(row: &PayloadParams, ssrc: Ssrc, repair: Option<Ssrc>) ->
     }
 }
 
-/// What a row says of its payloads.
+/// A row's payload format.
 pub(crate) fn row_format_of(row: &PayloadParams) -> RowFormat
     ensures { result ≡ row_format_of row.now }
 {
@@ -52,7 +52,7 @@ pub(crate) fn row_format_of(row: &PayloadParams) -> RowFormat
     }
 }
 
-/// A RED type has 7 bits and is another than the row's.
+/// A RED type is below 128, and isn't the row's own type.
 fn is_red_of(pt: Pt, red: Option<Pt>) -> bool
     ensures { result ≡ is_red_of pt red }
 {
@@ -69,7 +69,8 @@ pub(crate) fn has_payload(row: &PayloadParams) -> bool
     has_format(row.spec().codec) && row.pt().get() <= 127
 }
 
-/// Whether a stream can carry a row: its codec has a payload format, and its types have 7 bits and are distinct.
+/// Whether a stream can carry a row: its codec has a payload format, and its payload types are
+/// below 128 and distinct.
 pub(crate) fn is_carried(row: &PayloadParams) -> bool
     ensures { result ≡ is_carried row.now }
 {

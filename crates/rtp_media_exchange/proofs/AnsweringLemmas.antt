@@ -4,10 +4,10 @@ use Rattle.std.specs.Prelude.{IsTrue}
 use Rattle.sdp_formats_data.specs.PrintedSession.{sdp_text}
 use Rattle.sdp_formats_data.specs.declared.session.Session.{Session}
 use Rattle.sdp_formats_rounds.specs.Members.{IsEach}
-use Rattle.rtp_media_section_laws.specs.PrintableSections.{AnsweredSectionsArePrintable}
-use Rattle.rtp_media_section_laws.specs.PrintedSections.{TextsSaySections, as_read}
-use Rattle.rtp_media_section_laws.specs.ReadRounds.{ReadSectionsKeepRows}
-use Rattle.rtp_media_section_laws.specs.WantedSections.{AnsweredSectionsNameWanted}
+use Rattle.rtp_media_sections.specs.PrintableSections.{AnsweredSectionsArePrintable}
+use Rattle.rtp_media_sections.specs.PrintedSections.{TextsSaySections, as_read}
+use Rattle.rtp_media_sections.specs.ReadRounds.{ReadSectionsKeepRows}
+use Rattle.rtp_media_sections.specs.WantedSections.{AnsweredSectionsNameWanted}
 use Rattle.rtp_media_sections.specs.Agreement.{Agreed, AgreesOn}
 use Rattle.rtp_media_exchange.specs.Answering.{HasWidths, read_back}
 use Rattle.rtp_media_exchange.specs.Exchanges.{Exchanged, IsKept, answered_agreement, with_agreement}
@@ -15,7 +15,7 @@ use Rattle.sdp_formats_rounds.specs.Laws.{rounds}
 use Rattle.rtp_media_sections.specs.Lines.{remote_of}
 use Rattle.rtp_media_exchange.specs.Offers.{Answers, answer_of, answered_sections, sdp_of}
 use Rattle.rtp_media_exchange.specs.Refusals.{no_answer, not_written}
-use Rattle.rtp_media_sections.specs.Rows.{Row}
+use Rattle.sdp_formats_rows.specs.Rows.{Row}
 use Rattle.rtp_media_exchange.specs.Says.{AgreesOnText, SaysSections}
 use Rattle.rtp_media_sections.specs.Sections.{Section, Wanted, are_sound, corresponds}
 use Rattle.rtp_media_exchange.proofs.Agreeing.{answered_agrees}

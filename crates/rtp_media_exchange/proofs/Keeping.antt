@@ -14,12 +14,12 @@ use Rattle.sdp_formats_reader.specs.Writable.{IsWritableSession}
 use Rattle.sdp_formats_rounds.specs.Laws.{is_distinct, rounds}
 use Rattle.sdp_formats_rounds.specs.Members.{IsEach}
 use Rattle.sdp_formats_rounds.specs.Ranges.{IsSized}
-use Rattle.rtp_media_section_laws.specs.ReadRounds.{ReadSectionsKeepRows}
-use Rattle.rtp_media_sections.specs.DefaultRows.{opus_row}
+use Rattle.rtp_media_sections.specs.ReadRounds.{ReadSectionsKeepRows}
+use Rattle.sdp_formats_rows.specs.DefaultRows.{opus_row}
 use Rattle.rtp_media_sections.specs.Extensions.{is_writable_map}
 use Rattle.rtp_media_sections.specs.Lines.{remote_of, types_listed}
-use Rattle.rtp_media_sections.specs.Plain.{is_plain}
-use Rattle.rtp_media_sections.specs.Rows.{Row}
+use Rattle.sdp_formats_rows.specs.Plain.{is_plain}
+use Rattle.sdp_formats_rows.specs.Rows.{Row}
 use Rattle.rtp_media_sections.specs.Sections.{Section}
 use Rattle.rtp_media_exchange.specs.Exchanges.{IsKept, bare_session, fixed}
 use Rattle.rtp_media_exchange.specs.Refusals.{first_repeated, is_among, row_refusal, types_refusal}

@@ -12,7 +12,7 @@ use Rattle.rtp_media_sections.specs.Agreement.{remote_repairs_in, said_of, secti
 use Rattle.rtp_media_sections.specs.Answered.{answered_direction, flow}
 use Rattle.rtp_media_sections.specs.Sections.{Section, Wanted}
 use Rattle.rtp_wire.specs.Direction.{receives, sends}
-use Rattle.rtp_wire.specs.declared.Direction.{Direction}
+use Rattle.rtp_wire.specs.declared.direction.Direction.{Direction}
 
 some_same : (x y : List Wanted) → Some x ≡ Some y → x ≡ y
 some_same x y e = cc

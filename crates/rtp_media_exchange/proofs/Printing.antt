@@ -6,22 +6,22 @@ use Rattle.std.specs.List.{list_all, list_any}
 use Rattle.std.proofs.lemmas.Bool.{false≢true}
 use Rattle.std.proofs.lemmas.Bool.Decides.{nat_tests}
 use Rattle.std.proofs.lemmas.Slice.Eq.{bytes_eq-Decides}
-use Rattle.payload_core_base.specs.declared.codec.MediaKind.{MediaKind}
-use Rattle.payload_core_base.specs.declared.codec.MediaKind.TheVariants.{Audio, Video}
+use Rattle.media_types.specs.declared.codec.MediaKind.{MediaKind}
+use Rattle.media_types.specs.declared.codec.MediaKind.TheVariants.{Audio, Video}
 use Rattle.rtp_wire.specs.Values.{Numbering}
 use Rattle.sdp_formats_data.specs.PrintedSession.{sdp_text}
 use Rattle.sdp_formats_data.specs.declared.session.Sdp.{Sdp}
 use Rattle.sdp_formats_laws.proofs.Lists.{neither}
 use Rattle.sdp_formats_rounds.specs.Members.{IsEach}
-use Rattle.rtp_media_section_laws.specs.PrintableSections.{AnsweredSectionsArePrintable, ArePrintable}
-use Rattle.rtp_media_section_laws.specs.PrintableSections.{OfferedSectionsArePrintable}
-use Rattle.rtp_media_section_laws.specs.PrintedSections.{IsPrintable, SaysRead, TextsSaySections}
-use Rattle.rtp_media_section_laws.specs.PrintedSections.{as_read}
+use Rattle.rtp_media_sections.specs.PrintableSections.{AnsweredSectionsArePrintable, ArePrintable}
+use Rattle.rtp_media_sections.specs.PrintableSections.{OfferedSectionsArePrintable}
+use Rattle.rtp_media_sections.specs.PrintedSections.{IsPrintable, SaysRead, TextsSaySections}
+use Rattle.rtp_media_sections.specs.PrintedSections.{as_read}
 use Rattle.rtp_media_sections.specs.Agreement.{agreed_by_answer}
 use Rattle.rtp_media_sections.specs.Answered.{answered_rows, answered_section}
 use Rattle.rtp_media_sections.specs.Extensions.{is_writable_map}
-use Rattle.rtp_media_sections.specs.Kinds.{rows_of_kind}
-use Rattle.rtp_media_sections.specs.Rows.{Row}
+use Rattle.sdp_formats_rows.specs.Kinds.{rows_of_kind}
+use Rattle.sdp_formats_rows.specs.Rows.{Row}
 use Rattle.rtp_media_sections.specs.Sections.{Section, Wanted, corresponds, has_shape, is_wanted, same_kind}
 use Rattle.rtp_media_exchange.specs.Answering.{HasWidths, read_back}
 use Rattle.rtp_media_exchange.specs.Exchanges.{Exchanged, IsKept, answered_agreement}

@@ -6,11 +6,11 @@ use Rattle.std.specs.Str.{bytes_eq}
 use Rattle.std.proofs.lemmas.Slice.Eq.{bytes_eq-Decides}
 use Rattle.rtp_wire.specs.Values.{Numbering}
 use Rattle.sdp_formats_laws.proofs.Lists.{both}
-use Rattle.rtp_media_section_laws.specs.PrintedSections.{as_read}
-use Rattle.rtp_media_section_laws.specs.WantedSections.{AnsweredSectionsNameWanted, OfferedSectionsNameWanted}
+use Rattle.rtp_media_sections.specs.PrintedSections.{as_read}
+use Rattle.rtp_media_sections.specs.WantedSections.{AnsweredSectionsNameWanted, OfferedSectionsNameWanted}
 use Rattle.rtp_media_sections.specs.Answered.{answered_section}
 use Rattle.rtp_media_sections.specs.Offered.{offered_section}
-use Rattle.rtp_media_sections.specs.Rows.{Row}
+use Rattle.sdp_formats_rows.specs.Rows.{Row}
 use Rattle.rtp_media_sections.specs.Sections.{Section, Wanted, are_sound, corresponds, is_sound, is_wanted, same_kind}
 use Rattle.rtp_media_exchange.specs.Offers.{answered_sections, offered_sections}
 use Rattle.rtp_media_exchange.specs.Wishes.{AreAnswers, AreOffers, IsAnswerOf, IsOfferOf}

@@ -2,18 +2,18 @@
 use Rattle.std.specs.Prelude.{◌≡◌, ◌<◌, ◌^◌, ℕ, true, false, List, [], ◌∷◌, length, map, zip, Option, None}
 use Rattle.rtp_wire.specs.Maps.{empty_map}
 use Rattle.rtp_wire.specs.Values.{Numbering}
-use Rattle.rtp_media_sections.specs.Configs.{Config}
-use Rattle.rtp_media_sections.specs.DefaultRows.{opus_row}
-use Rattle.rtp_media_sections.specs.Rows.{Row}
+use Rattle.sdp_formats_rounds.specs.Configs.{Config}
+use Rattle.sdp_formats_rows.specs.DefaultRows.{opus_row}
+use Rattle.sdp_formats_rows.specs.Rows.{Row}
 use Rattle.sdp_formats_data.specs.declared.session.Session.{Session}
 use Rattle.rtp_media_sections.specs.Agreement.{Agreed, agreed_by_accept, agreed_by_answer, fixed_section}
 use Rattle.rtp_media_sections.specs.Extensions.{is_writable_map}
 use Rattle.rtp_media_sections.specs.Sections.{Section, Wanted}
-use Rattle.rtp_media_section_laws.specs.PrintableSections.{ArePrintable}
+use Rattle.rtp_media_sections.specs.PrintableSections.{ArePrintable}
 use Rattle.sdp_formats_reader.specs.Writable.{IsWritableSession}
 
--- What an end keeps of its exchanges: its session, the header extensions that it wants, its rows with their locks, the
--- sections of an offer that waits for its answer, and the sections that were agreed last.
+-- What an end keeps of its exchanges: its session, the header extensions it wants, its rows and their locks, the
+-- sections of a pending offer, and the sections agreed last.
 pub record Exchanged : Type 0 where
   pub session : Session
   pub wanted : Numbering
@@ -21,8 +21,8 @@ pub record Exchanged : Type 0 where
   pub pending : Option (List Wanted)
   pub agreed : List Agreed
 
--- What holds of an end at any time: its session and its header extensions can be written, and its rows come back from
--- the texts that list them.
+-- The invariant of an end: its session and its extension map can be written, and its rows read back from the texts that
+-- list them.
 pub record IsKept (session : Session) (exts : Numbering) (rows : List Row) : Type 0 where
   pub id : session.id < 2 ^ 64
   pub writable : IsWritableSession session
@@ -39,7 +39,7 @@ abbrev pub fresh : Session → Numbering → Config → Exchanged
 fresh session wanted config =
     record { session = session; wanted = wanted; config = config; pending = None; agreed = [] }
 
--- An end that has agreed as if by an exchange.
+-- An end's state as if an exchange had taken place.
 unfoldable pub fixed : Exchanged
 fixed = record {
   session = bare_session 0;
@@ -53,16 +53,16 @@ fixed = record {
 abbrev pub with_offer : Exchanged → Option (List Wanted) → Exchanged
 with_offer x wanted = record x { pending = wanted }
 
--- After an exchange that left the rows so and agreed on these sections.
+-- After an exchange with these rows and these agreed sections.
 abbrev pub with_agreement : Exchanged → List Row → List Agreed → Exchanged
 with_agreement x rows agreed =
     record x { config = record x.config { rows = rows }; pending = None; agreed = agreed }
 
--- What the end agrees on that answers sections, each by its wanted one, the offered one and the answer's.
+-- What the answering end agrees on, section by section, from the wanted, the offered and the answered one.
 abbrev pub answered_agreement : List Wanted → List Section → List Section → List Agreed
 answered_agreement wanted offer answer =
     map (λ s. agreed_by_answer s.0.0 s.0.1 s.1) (zip (zip wanted offer) answer)
 
--- What the end agrees on that offered them.
+-- What the offering end agrees on.
 abbrev pub accepted_agreement : List Wanted → List Section → List Agreed
 accepted_agreement wanted answer = map (λ s. agreed_by_accept s.0 s.1) (zip wanted answer)

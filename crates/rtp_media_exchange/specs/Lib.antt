@@ -1,16 +1,3 @@
-pub use Rattle.rtp_media_sections.specs.Agreement
-pub use Rattle.rtp_media_sections.specs.Answered
-pub use Rattle.rtp_media_sections.specs.Configs
-pub use Rattle.rtp_media_sections.specs.Extensions
-pub use Rattle.rtp_media_sections.specs.Kinds
-pub use Rattle.rtp_media_sections.specs.Laws
-pub use Rattle.rtp_media_sections.specs.Lines
-pub use Rattle.rtp_media_sections.specs.Offered
-pub use Rattle.rtp_media_sections.specs.Plain
-pub use Rattle.sdp_formats_reader.specs.ReaderErrors
-pub use Rattle.rtp_media_sections.specs.Rows
-pub use Rattle.rtp_media_sections.specs.Sections
-pub use Rattle.sdp_formats_reader.specs.Writable
 pub mod Answering
 pub mod Exchanges
 pub mod Mutual

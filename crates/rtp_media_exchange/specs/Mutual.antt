@@ -10,9 +10,9 @@ use Rattle.rtp_media_sections.specs.Lines.{repairs_of, ssrcs_of}
 use Rattle.rtp_media_sections.specs.Sections.{Section, Wanted, has_mid}
 use Rattle.rtp_wire.specs.Direction.{receives, sends}
 
--- What an end agreed on in a section is what its own text and the other one say: media flows from it where its own
--- sends and the other receives, and to it the other way; each SSRC and each repair is named where that end's text names
--- it.
+-- What an end agreed on in a section follows from its own text and the other's: media flows from it if its own text
+-- sends and the other's receives, and to it the other way round; each SSRC and each RTX pair is named by the text of
+-- the end that sends it.
 pub record StandsBy (own other : Section) (a : Agreed) : Type 0 where
   pub flows_out : a.sends ≡ (sends own.dir && receives other.dir)
   pub flows_in : a.receives ≡ (receives own.dir && sends other.dir)
@@ -21,15 +21,15 @@ pub record StandsBy (own other : Section) (a : Agreed) : Type 0 where
   pub own_repairs : a.own_repairs ≡ repairs_of own
   pub remote_repairs : a.remote_repairs ≡ repairs_of other
 
--- A section that was offered and answered: each text says its end's wish, the answer's as far as the offer lets it, and
--- each end stands by the same two texts.
+-- A section that was offered and answered: each text states its end's wish (the answer's as far as the offer allows),
+-- and each end agreed on what these two texts say.
 pub record IsMutual (offered answered : Section) (wish_x wish_y : Wanted) (x y : Agreed) : Type 0 where
   pub offered_is : offered.dir ≡ wish_x.dir
   pub answered_is : answered.dir ≡ answered_direction offered.dir wish_y.dir
   pub offering : StandsBy offered answered x
   pub answering : StandsBy answered offered y
 
--- The sections of one name, or none.
+-- The sections with one mid; or none.
 abbrev pub AreMutual : Option Section → Option Section → Option Wanted → Option Wanted → Option Agreed → Option Agreed
     → Type 0
 AreMutual (Some offered) (Some answered) (Some wish_x) (Some wish_y) (Some x) (Some y) =
@@ -49,7 +49,7 @@ pub record HaveExchanged (offer answer : List ℕ) (wanted_x wanted_y : List Wan
   pub answers : Answers y offer wanted_y answer after_y
   pub accepts : Accepts x answer after_x
 
--- By the sections that the two texts say, those of one name are mutual.
+-- In the two texts of an exchange, sections with the same mid are mutual.
 abbrev pub ExchangesAreMutual : Type 0
 ExchangesAreMutual = (offer answer : List ℕ) (wanted_x wanted_y : List Wanted) (x y after_x after_y : Exchanged)
     → HaveExchanged offer answer wanted_x wanted_y x y after_x after_y → (offered answered : List Section)
@@ -57,7 +57,7 @@ ExchangesAreMutual = (offer answer : List ℕ) (wanted_x wanted_y : List Wanted)
     → AreMutual (said_of offered mid) (said_of answered mid) (wanted_of wanted_x mid) (wanted_of wanted_y mid)
     (section_of after_x.agreed mid) (section_of after_y.agreed mid)
 
--- The repairs that one end names are those that the other one takes of it.
+-- Each end takes exactly the RTX pairs that the other names.
 abbrev pub RepairsAreMutual : Type 0
 RepairsAreMutual = (offer answer : List ℕ) (wanted_x wanted_y : List Wanted) (x y after_x after_y : Exchanged)
     → HaveExchanged offer answer wanted_x wanted_y x y after_x after_y → (mid : List ℕ)

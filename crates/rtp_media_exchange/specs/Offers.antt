@@ -1,8 +1,8 @@
 -- What offers and answers say.
 use Rattle.std.specs.Prelude.{◌≡◌, ℕ, IsTrue, List, ◌∷◌, map, zip, codes, Some, Ok}
 use Rattle.rtp_wire.specs.Values.{Numbering}
-use Rattle.rtp_media_sections.specs.Laws.{rounds}
-use Rattle.rtp_media_sections.specs.Rows.{Row}
+use Rattle.sdp_formats_rounds.specs.Laws.{rounds}
+use Rattle.sdp_formats_rows.specs.Rows.{Row}
 use Rattle.sdp_formats_data.specs.PrintedSession.{sdp_text}
 use Rattle.sdp_formats_data.specs.declared.session.Sdp.{Sdp}
 use Rattle.sdp_formats_data.specs.declared.session.Session.{Session}
@@ -11,13 +11,13 @@ use Rattle.sdp_formats_data.specs.declared.session.SessionAttribute.TheVariants.
 use Rattle.rtp_media_exchange.specs.Exchanges.{Exchanged, accepted_agreement, answered_agreement, with_agreement}
 use Rattle.rtp_media_exchange.specs.Says.{SaysSections}
 use Rattle.rtp_media_exchange.specs.Wishes.{AreAnswers}
-use Rattle.rtp_media_section_laws.specs.PrintedSections.{as_read}
+use Rattle.rtp_media_sections.specs.PrintedSections.{as_read}
 use Rattle.rtp_media_sections.specs.Answered.{answered_section}
 use Rattle.rtp_media_sections.specs.Lines.{line_of, remote_of}
 use Rattle.rtp_media_sections.specs.Offered.{offered_section}
 use Rattle.rtp_media_sections.specs.Sections.{Section, Wanted, corresponds}
 
--- These sections are one bundle (RFC 9143 7.2).
+-- These sections in one BUNDLE group (RFC 9143 7.2).
 abbrev pub bundle_of : List Section → SessionAttribute
 bundle_of sections = Group (codes "BUNDLE") (map (λ s. s.mid) sections)
 
@@ -39,12 +39,12 @@ offer_of x wanted = sdp_of x.session (offered_sections x.wanted x.config.rows wa
 abbrev pub answered_sections : Numbering → List Row → List Wanted → List Section → List Section
 answered_sections exts rows wanted offer = map (λ s. answered_section exts rows s.0 s.1) (zip wanted offer)
 
--- What the answer to sections says, once the rounds left the rows so.
+-- The answer to sections, given the rows after the rounds.
 unfoldable pub answer_of : Exchanged → List Row → List Wanted → List Section → Sdp
 answer_of x rows wanted offer = sdp_of x.session (answered_sections x.wanted rows wanted offer)
 
--- The offer of a text was answered: the rounds ran, and the answer's text says the sections that were printed, of the
--- wanted names and kinds; what was agreed is what it says.
+-- An offer was answered: the rounds ran; the answer's text says the sections that were printed, with the wanted mids
+-- and kinds; and what was agreed is what it says.
 pub record Answers (x : Exchanged) (text : List ℕ) (wanted : List Wanted) (answer : List ℕ) (after : Exchanged)
     : Type 0 where
   pub offer : List Section

@@ -17,7 +17,7 @@ pub record SaysOnly (text : List ℕ) (lines : List MediaLine) : Type 0 where
   pub says : Says text lines
   pub only : (others : List MediaLine) → Says text others → others ≡ lines
 
--- What the sections of a text say to an exchange.
+-- What the sections of a text mean to an exchange.
 pub record SaysSections (text : List ℕ) (sections : List Section) : Type 0 where
   pub lines : List MediaLine
   pub says : SaysOnly text lines

@@ -12,9 +12,10 @@ use crate::agree::answered_agreement;
 use crate::errors::ExchangeError;
 use crate::print::text_of;
 use crate::read_back::all_read_back;
-use rtp_media_sections::{AgreedSection, CodecConfig, Section, SectionSpec, answered_section};
+use rtp_media_sections::{AgreedSection, Section, SectionSpec, answered_section};
 use rtp_wire::ExtensionMap;
 use sdp_formats_data::Session;
+use sdp_formats_rounds::CodecConfig;
 use std::alloc::{AllocError, Global};
 
 /// The section that answers an offered one, where it lists a row.

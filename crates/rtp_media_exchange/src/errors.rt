@@ -1,7 +1,7 @@
 //! Why calls are refused.
 
 use rtp_wire::{Mid, Pt};
-use sdp_formats_reader::SdpError;
+use sdp_formats_data::SdpError;
 use sdp_formats_rounds::RoundError;
 use std::alloc::{AllocError, AllocFailed};
 use thiserror::Error;
@@ -12,12 +12,13 @@ pub enum EndError {
     /// The row of this index is of a kind that an end can't agree on.
     #[error("row {0} is not plain")]
     RowNotPlain(usize),
-    /// A payload type stands for two things: it stood before as a type, a type of retransmissions or a RED type.
+    /// A payload type is used for two things: it occurred before as a payload type, an RTX type or
+    /// a RED type.
     #[error("payload type {0} stands for two things")]
     TypesNotDistinct(Pt),
-    /// The URI of a header extension is empty or has a blank or a line end; or the session can't be written: the line
-    /// of its bandwidth isn't read as that bandwidth, or an attribute is a group, or its line is read neither as that
-    /// attribute nor as one of no known kind.
+    /// The URI of a header extension is empty or contains a blank or a line end; or the session
+    /// can't be written: its bandwidth line doesn't read back as that bandwidth, or an attribute is
+    /// a group, or its line reads back neither as that attribute nor as one of an unknown kind.
     #[error("the session can't be written")]
     NotWritable,
     /// Out of memory.
@@ -45,14 +46,15 @@ pub enum ExchangeError {
     /// An offer is pending, or none is.
     #[error("this call is out of turn")]
     OutOfTurn,
-    /// This section of the text is no media: not audio or video over `UDP/TLS/RTP/SAVPF`, or of port 0.
+    /// This section of the text isn't media: not audio or video over `UDP/TLS/RTP/SAVPF`, or
+    /// rejected by port 0.
     #[error("section {0} is no media")]
     NotMedia(Mid),
-    /// There is no section, a name stands twice, the sections of text and list have not the same names and kinds in the
-    /// same order, or they don't begin with the agreed ones.
+    /// There is no section, a mid occurs twice, the sections of the text and the list don't have
+    /// the same mids and kinds in the same order, or they don't start with the agreed ones.
     #[error("the sections do not correspond")]
     NotCorresponding,
-    /// The rows can't be settled against the other end's.
+    /// Negotiating the rows with the other end's failed.
     #[error("{0}")]
     Round(RoundError),
     /// This section would list no row.

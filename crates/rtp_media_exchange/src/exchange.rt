@@ -15,10 +15,12 @@ use crate::errors::{EndError, ExchangeError};
 use crate::fixed::fixed_config;
 use crate::named::section_named;
 use crate::plain::check_new;
-use rtp_media_sections::{AgreedSection, CodecConfig, PayloadParams, SectionSpec, own_row_agrees};
+use rtp_media_sections::{AgreedSection, SectionSpec, own_row_agrees};
 use rtp_wire::{ExtensionMap, Mid, SessionId};
 use sdp_formats_data::Session;
 use sdp_formats_laws::formats_law;
+use sdp_formats_rounds::CodecConfig;
+use sdp_formats_rows::PayloadParams;
 use std::alloc::{AllocError, Global};
 use std::marker::Model;
 
@@ -34,7 +36,7 @@ pub struct Exchange {
     agreed: Vec<AgreedSection>,
 }
 
-/// Written by hand so that crates that drop this type need no proof about its fields.
+/// Written by hand, so that crates that drop this type need no proof about its fields.
 impl Drop for Exchange {
     fn drop(self) {
         let Exchange {
@@ -48,7 +50,7 @@ impl Drop for Exchange {
     }
 }
 
-/// The sections of an offer that waits for its answer.
+/// The sections of a pending offer.
 #[derive(Debug, Drop)]
 pub(crate) struct Pending {
     sections: Vec<SectionSpec>,
@@ -156,7 +158,8 @@ impl Exchange {
         self.agreed.as_slice()
     }
 
-    /// Whether one of the end's own rows is locked at the type of an agreed row and means the same.
+    /// Whether one of the end's own rows is locked with the agreed row's payload type and is the
+    /// same to a stream.
     pub fn agrees_with(&self, row: &PayloadParams) -> bool
         ensures { result ≡ own_row_agrees self.now.config.rows row.now }
     {

@@ -3,7 +3,7 @@
 ghost use Rattle.std.specs.Prelude.{◌≡◌, IfOk};
 ghost use Rattle.rtp_media_exchange.specs.Exchanges.{fixed};
 
-use rtp_media_sections::CodecConfig;
+use sdp_formats_rounds::CodecConfig;
 use std::alloc::{AllocError, Global};
 
 /// The rows of an end that has agreed as if by an exchange: Opus at payload type 111, locked.

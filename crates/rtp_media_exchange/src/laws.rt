@@ -14,9 +14,10 @@ pub fn one_agreement_law()
         → (mid : List ℕ) → agreed_map_of a mid ≡ agreed_map_of b mid }
 {}
 
-/// After an offer, its answer and its acceptance both ends stand, in each section, by what the two texts say: media
-/// flows from one to the other where its text sends and the other one's receives, and an SSRC or a repair is named
-/// where the text of its end names it (RFC 3264 6, RFC 5576 4.1, RFC 4588 8.3).
+/// After an offer, its answer and its acceptance, what each end agreed on in each section follows
+/// from the two texts: media flows from one end to the other if its text sends and the other's
+/// receives, and an SSRC or an RTX pair is named if the text of its own end names it (RFC 3264 6,
+/// RFC 5576 4.1, RFC 4588 8.3).
 pub fn mutual_law()
     ensures sections { ExchangesAreMutual }
     ensures repairs { RepairsAreMutual }

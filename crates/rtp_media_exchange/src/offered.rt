@@ -6,8 +6,9 @@ ghost use Rattle.rtp_media_exchange.specs.Offers.{offered_sections};
 ghost use Rattle.rtp_media_exchange.specs.Refusals.{is_nameless, lists_none, no_row_of, not_written};
 
 use crate::errors::ExchangeError;
-use rtp_media_sections::{CodecConfig, Section, SectionSpec, offered_section};
+use rtp_media_sections::{Section, SectionSpec, offered_section};
 use rtp_wire::ExtensionMap;
+use sdp_formats_rounds::CodecConfig;
 use std::alloc::{AllocError, Global};
 
 fn lists_none(config: &CodecConfig, section: &SectionSpec) -> Result<bool, AllocError>

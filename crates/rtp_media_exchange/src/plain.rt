@@ -8,13 +8,14 @@ ghost use Rattle.sdp_formats_reader.specs.Writable.{IsWritableSession};
 
 use crate::errors::EndError;
 use crate::widths::pass_rows;
-use rtp_media_sections::{PayloadParams, is_writable, types_listed};
+use rtp_media_sections::{is_writable, types_listed};
 use rtp_wire::{ExtensionMap, Pt};
 use sdp_formats_data::Session;
 use sdp_formats_reader::is_writable_session;
+use sdp_formats_rows::PayloadParams;
 use std::alloc::Global;
 
-/// That each row is plain.
+/// Checks that each row is plain.
 fn check_rows(alloc: Global, rows: &[PayloadParams]) -> Result<(), EndError>
     ensures ok { OnOk result (row_refusal 0 rows.now ≡ None) }
     ensures refused { IfErr result (λ e. e ≢ EndError.Memory → row_refusal 0 rows.now ≡ Some e) }
@@ -44,7 +45,7 @@ fn first_repeated(types: &[Pt]) -> Option<Pt>
     None
 }
 
-/// That each payload type stands for one thing.
+/// Checks that each payload type is used for one thing only.
 fn check_types(alloc: Global, rows: &[PayloadParams]) -> Result<(), EndError>
     ensures ok { OnOk result (types_refusal rows.now ≡ None) }
     ensures refused { IfErr result (λ e. e ≢ EndError.Memory → types_refusal rows.now ≡ Some e) }

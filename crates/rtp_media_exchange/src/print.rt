@@ -7,7 +7,8 @@ ghost use Rattle.rtp_media_sections.specs.Lines.{line_of};
 
 use rtp_media_sections::Section;
 use rtp_wire::Mid;
-use sdp_formats_data::{Listed, MediaLine, Session, SessionAttribute, Text};
+use sdp_formats_data::{MediaLine, Session, SessionAttribute};
+use sdp_formats_grammar::{Listed, Text};
 use sdp_formats_reader::WholeText;
 use std::alloc::{AllocError, Global};
 
@@ -21,7 +22,7 @@ fn mids_of(alloc: Global, sections: &[Section]) -> Result<Vec<Mid>, AllocError>
     Ok(mids)
 }
 
-/// One bundle of these sections.
+/// These sections in one BUNDLE group.
 fn bundle_of(alloc: Global, sections: &[Section]) -> Result<SessionAttribute, AllocError>
     ensures { IfOk result (λ group. group ≡ bundle_of sections.now) }
 {

@@ -2,11 +2,12 @@
 
 ghost use Rattle.std.specs.Prelude.{◌≡◌, map, IfOk};
 ghost use Rattle.rtp_media_exchange.specs.Answering.{read_back};
-ghost use Rattle.rtp_media_section_laws.specs.PrintedSections.{named};
+ghost use Rattle.rtp_media_sections.specs.PrintedSections.{named};
 ghost use Rattle.sdp_formats_laws.specs.RowsBack.{unlocked};
 
-use rtp_media_sections::{PayloadParams, Section};
+use rtp_media_sections::Section;
 use rtp_wire::Extension;
+use sdp_formats_rows::PayloadParams;
 use std::alloc::{AllocError, Global};
 
 /// The row as it is before an exchange settles it.
@@ -33,7 +34,7 @@ fn all_unlocked(alloc: Global, rows: &[PayloadParams]) -> Result<Vec<PayloadPara
     Ok(fresh)
 }
 
-/// An extension as its URI names it.
+/// An extension by its URI.
 fn named(alloc: Global, entry: &(u8, Extension)) -> Result<(u8, Extension), AllocError>
     ensures { IfOk result (λ e. e ≡ named entry.now) }
 {

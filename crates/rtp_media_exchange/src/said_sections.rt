@@ -7,8 +7,8 @@ ghost use Rattle.rtp_media_sections.specs.Lines.{section_of};
 
 use crate::errors::ExchangeError;
 use rtp_media_sections::Section;
-use sdp_formats_data::{MediaLine, Sdp};
-use sdp_formats_reader::{SdpError, sdp_parser};
+use sdp_formats_data::{MediaLine, Sdp, SdpError};
+use sdp_formats_reader::sdp_parser;
 use std::alloc::{AllocError, Global};
 
 fn read_lines(alloc: Global, text: &str) -> Result<Vec<MediaLine>, ExchangeError>

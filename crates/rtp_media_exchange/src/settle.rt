@@ -10,7 +10,9 @@ ghost use Rattle.rtp_media_exchange.specs.Refusals.{shares_none};
 ghost use Rattle.rtp_media_sections.specs.Lines.{remote_of};
 
 use crate::errors::ExchangeError;
-use rtp_media_sections::{CodecConfig, PayloadParams, RoundError, Section};
+use rtp_media_sections::Section;
+use sdp_formats_rounds::{CodecConfig, RoundError};
+use sdp_formats_rows::PayloadParams;
 
 /// That each section of a text is media.
 ///

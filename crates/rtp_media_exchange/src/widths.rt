@@ -2,12 +2,13 @@
 
 ghost use Rattle.std.specs.Prelude.{◌<◌, ◌^◌, IfSome};
 ghost use Rattle.rtp_media_exchange.specs.Answering.{HasWidths};
-ghost use Rattle.rtp_media_section_laws.specs.PrintableSections.{IsLowPair};
+ghost use Rattle.rtp_media_sections.specs.PrintableSections.{IsLowPair};
 ghost use Rattle.sdp_formats_rounds.specs.Members.{IsEach};
 ghost use Rattle.sdp_formats_rounds.specs.Ranges.{IsSized};
 
-use rtp_media_sections::{PayloadParams, SectionSpec};
+use rtp_media_sections::SectionSpec;
 use rtp_wire::Ssrc;
+use sdp_formats_rows::PayloadParams;
 
 fn pass_channels(channels: Option<u8>)
     ensures { IfSome channels (λ n. n < 2 ^ 8) }
@@ -23,7 +24,7 @@ fn pass_row(row: &PayloadParams)
     pass_channels(spec.channels);
 }
 
-/// Looks at the clock rate and the channels of each row.
+/// Reads the clock rate and the channels of each row, so that their ranges are known.
 pub(crate) fn pass_rows(rows: &[PayloadParams])
     ensures { IsEach IsSized rows.now }
 {

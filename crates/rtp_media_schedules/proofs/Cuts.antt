@@ -6,7 +6,8 @@ use Rattle.payload_core_base.specs.declared.error.PacketError.{PacketError}
 use Rattle.payload_core_base.specs.declared.extra.CodecExtra.{CodecExtra}
 use Rattle.payload_core_buffer.specs.declared.frame.Frame.{Frame}
 use Rattle.payload_core_buffer.specs.declared.held.RtpMeta.{RtpMeta}
-use Rattle.rtp_media_schedules.specs.Hearing.{Answer, Event, Comes, Poll, Stream, after_events, answer_among, answer_by}
+use Rattle.payload_core_buffer.specs.Steps.{Answer, answer_among, answer_by}
+use Rattle.rtp_media_schedules.specs.Hearing.{Event, Comes, Poll, Stream, after_events}
 use Rattle.rtp_media_schedules.specs.Hearing.{due, heard, heard_step, number_at, poll_answer, polled}
 use Rattle.rtp_media_schedules.specs.Hearing.{stream_behind, taken_by}
 

@@ -7,7 +7,8 @@ use Rattle.payload_core_base.specs.Format.{Format}
 use Rattle.payload_core_buffer.specs.Buffered.{Holding, pushed}
 use Rattle.payload_core_buffer.specs.declared.frame.Frame.{Frame}
 use Rattle.rtp_media_schedules.specs.Hearing as hearing
-use Rattle.rtp_media_schedules.specs.Hearing.{Answer, Content, Stream, due, fresh, heard, packet_of, poll_answer}
+use Rattle.payload_core_buffer.specs.Steps.{Answer}
+use Rattle.rtp_media_schedules.specs.Hearing.{Content, Stream, due, fresh, heard, packet_of, poll_answer}
 use Rattle.rtp_media_schedules.specs.Hearing.{polled}
 use Rattle.rtp_media_schedules.specs.Hearing.{stream_behind, taken_by}
 use Rattle.rtp_wire.specs.Replay.{is_accepted, recorded_in}

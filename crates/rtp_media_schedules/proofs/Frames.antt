@@ -17,10 +17,11 @@ use Rattle.payload_core_buffer.specs.Packets.{Packet, metas_of, payloads_of}
 use Rattle.payload_core_buffer.specs.Pops.{no_extra, run_of}
 use Rattle.payload_core_buffer.specs.declared.frame.Frame.{Frame}
 use Rattle.payload_core_buffer.specs.declared.held.RtpMeta.{RtpMeta}
-use Rattle.rtp_media_schedules.specs.Hearing.{content_of, Content, MediaUnit, unit_from}
+use Rattle.rtp_media_schedules.specs.Hearing.{content_of, Content}
+use Rattle.payload_core_buffer.specs.Steps.{MediaUnit, unit_from}
 use Rattle.rtp_media_schedules.specs.Turns.{Sender}
 use Rattle.rtp_media_schedules.proofs.Places.{packet}
-use Rattle.rtp_media_schedules.specs.Hearing.{answer_of, answer_by}
+use Rattle.payload_core_buffer.specs.Steps.{answer_of, answer_by}
 use Rattle.rtp_media_schedules.specs.Legal.{IsFinalRunOf}
 use Rattle.rtp_media_schedules.specs.Sending.{SentFrame, canonical}
 use Rattle.rtp_media_schedules.proofs.Numbers.{packet-at, Rises-behind}

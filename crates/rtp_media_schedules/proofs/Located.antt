@@ -4,9 +4,9 @@ use Rattle.std.specs.Prelude.{Ok, Some}
 use Rattle.std.proofs.lemmas.Bool.{cases_lt}
 use Rattle.payload_core_base.specs.Format.{Format}
 use Rattle.payload_core_base.specs.Law.{IsFrameOf}
-use Rattle.rtp_media_schedules.specs.Hearing.{MediaUnit}
+use Rattle.payload_core_buffer.specs.Steps.{MediaUnit}
 use Rattle.rtp_media_schedules.specs.Turns.{Sender}
-use Rattle.rtp_media_schedules.specs.Hearing.{Answer}
+use Rattle.payload_core_buffer.specs.Steps.{Answer}
 use Rattle.rtp_media_schedules.specs.Legal.{IsLegal, IsFinalRunOf, PassedOver, HandedOut}
 use Rattle.rtp_media_schedules.specs.Sending.{SentFrame, AreFrames, canonical, canonical_from, sizes, total}
 use Rattle.rtp_media_schedules.proofs.Frames.{Brings}

@@ -3,7 +3,7 @@ use Rattle.std.proofs.Common.{◌≡◌, ◌≢◌, ◌<◌, ◌≤◌, ◌∙�
 use Rattle.std.proofs.Common.{ap, arith}
 use Rattle.payload_core_base.specs.declared.error.PacketError.{PacketError}
 use Rattle.payload_core_base.specs.Law.{joined}
-use Rattle.rtp_media_schedules.specs.Hearing.{Answer, MediaUnit}
+use Rattle.payload_core_buffer.specs.Steps.{Answer, MediaUnit}
 use Rattle.rtp_media_schedules.specs.Legal.{IsFinalRunOf, IsLegal, PassedOver, HandedOut}
 use Rattle.rtp_media_schedules.specs.Sending.{Canonical}
 

@@ -13,7 +13,8 @@ use Rattle.payload_core_buffer.specs.declared.frame.Frame.{Frame}
 use Rattle.payload_core_buffer.specs.declared.held.RtpMeta.{RtpMeta}
 use Rattle.payload_core_buffer.proofs.DrainLemmas.{drain_law}
 use Rattle.rtp_media_schedules.specs.Drains.{holding_back}
-use Rattle.rtp_media_schedules.specs.Hearing.{IsInterrupted, Stream, answer_among, answer_by, due, kept_of}
+use Rattle.rtp_media_schedules.specs.Hearing.{IsInterrupted, Stream, due, kept_of}
+use Rattle.payload_core_buffer.specs.Steps.{answer_among, answer_by}
 use Rattle.rtp_media_schedules.specs.Hearing.{poll_answer, polled, stream_behind, with_kept}
 use Rattle.rtp_media_schedules.proofs.Sane.{due-is}
 

@@ -10,12 +10,14 @@ use Rattle.payload_core_base.specs.Law.{AreFramesOf, CodecLaw, Coding, IsFrameOf
 use Rattle.payload_core_base.specs.Packing.{MarkedPacket, Sent, marked}
 use Rattle.payload_core_base.specs.Packing as packing
 use Rattle.payload_core_base.specs.declared.error.PacketError.{PacketError}
-use Rattle.rtp_wire.specs.declared.ExtensionValues.{ExtensionValues}
+use Rattle.rtp_wire.specs.declared.values.ExtensionValues.{ExtensionValues}
 use Rattle.payload_core_buffer.specs.Buffered.{Holding}
-use Rattle.rtp_media_schedules.specs.Hearing.{Content, MediaUnit, content_of}
+use Rattle.rtp_media_schedules.specs.Hearing.{Content, content_of}
+use Rattle.payload_core_buffer.specs.Steps.{MediaUnit}
 use Rattle.rtp_media_schedules.specs.SentSamples.{Timed, sent_or, timed, timed_unit}
 use Rattle.rtp_media_schedules.specs.Turns.{Turn, Arrive, Ask, event_of}
-use Rattle.rtp_media_schedules.specs.Hearing.{Answer, EndsSilent, Stream, after_events, fresh, handed_out, heard}
+use Rattle.payload_core_buffer.specs.Steps.{Answer}
+use Rattle.rtp_media_schedules.specs.Hearing.{EndsSilent, Stream, after_events, fresh, handed_out, heard}
 use Rattle.rtp_media_schedules.specs.Hearing.{number_at, poll_answer, polled, taken_by}
 use Rattle.rtp_media_schedules.specs.Legal.{IsFinalRunOf, IsLegal, Ended, Silent, PassedOver, HandedOut}
 use Rattle.rtp_media_schedules.specs.Orders.{IsSane, IsTame, first_size}

@@ -14,15 +14,18 @@ use Rattle.payload_core_buffer.specs.Frames.{packets_between}
 use Rattle.payload_core_buffer.specs.Packets.{Packet, metas_of}
 use Rattle.payload_core_buffer.specs.declared.frame.Frame.{Frame}
 use Rattle.payload_core_buffer.proofs.FrameLemmas.{lowest_is}
-use Rattle.rtp_media_schedules.specs.Hearing.{content_of, Content, MediaUnit}
+use Rattle.rtp_media_schedules.specs.Hearing.{content_of, Content}
+use Rattle.payload_core_buffer.specs.Steps.{MediaUnit}
 use Rattle.rtp_media_schedules.specs.Turns.{Sender, Turn, Arrive, Ask, event_of, greatest_of, IsNear}
 use Rattle.rtp_media_schedules.proofs.Places.{packet}
 use Rattle.rtp_wire.specs.Replay.{Window, accepts, is_accepted, recorded_in, greatest_in}
 use Rattle.rtp_wire.specs.Widening.{widened}
-use Rattle.rtp_wire_values.proofs.WideningLaws.{widened-near}
+use Rattle.rtp_wire.proofs.WideningLaws.{widened-near}
 use Rattle.rtp_media_schedules.specs.Hearing as hearing
-use Rattle.rtp_media_schedules.specs.Hearing.{Stream, answer_among, due, fresh, heard, poll_answer}
-use Rattle.rtp_media_schedules.specs.Hearing.{polled, run_among, stream_behind, taken_by}
+use Rattle.rtp_media_schedules.specs.Hearing.{Stream, due, fresh, heard, poll_answer}
+use Rattle.payload_core_buffer.specs.Steps.{answer_among}
+use Rattle.rtp_media_schedules.specs.Hearing.{polled, stream_behind, taken_by}
+use Rattle.payload_core_buffer.specs.Steps.{run_among}
 use Rattle.rtp_media_schedules.specs.Legal.{IsFinalRunOf, IsLegal, Ended, Silent}
 use Rattle.rtp_media_schedules.specs.Orders.{IsSane, IsSaneArrival}
 use Rattle.rtp_media_schedules.specs.Sending.{SentFrame, AreFrames, canonical, canonical_from, contents, contents_in}

@@ -3,8 +3,7 @@ use Rattle.std.proofs.Common.{◌≡◌, ℕ, zero, suc, ◌<◌, refl, sym, ◌
 use Rattle.std.specs.Prelude.{Result, Ok, slice_index, slice_index_or}
 use Rattle.std.proofs.lemmas.List.{get_or-map, length-map}
 use Rattle.payload_core_base.specs.declared.error.PacketError.{PacketError}
-use Rattle.rtp_media_schedules.specs.Hearing.{MediaUnit}
-use Rattle.rtp_media_schedules.specs.Hearing.{Answer}
+use Rattle.payload_core_buffer.specs.Steps.{MediaUnit, Answer}
 use Rattle.rtp_media_schedules.specs.Legal.{IsFinalRunOf, IsLegal, IsSelection, Ended, Silent, PassedOver, HandedOut}
 use Rattle.rtp_media_schedules.specs.Sending.{Canonical}
 

@@ -17,7 +17,8 @@ use Rattle.payload_core_buffer.specs.Frames.{IsFrame, due_frame, is_next, number
 use Rattle.payload_core_buffer.specs.Packets.{Packet, metas_of}
 use Rattle.payload_core_buffer.specs.declared.held.RtpMeta.{RtpMeta}
 use Rattle.rtp_wire.specs.Replay.{Window, is_accepted, reach, reach_below, recorded_in}
-use Rattle.rtp_media_schedules.specs.Hearing.{Content, MediaUnit, packet_of}
+use Rattle.rtp_media_schedules.specs.Hearing.{Content, packet_of}
+use Rattle.payload_core_buffer.specs.Steps.{MediaUnit}
 use Rattle.rtp_media_schedules.specs.Turns.{Turn, Arrive, Ask, Sender, event_of, is_among, IsGoodArrival, AllCame}
 use Rattle.rtp_media_schedules.specs.Turns.{waiting}
 use Rattle.rtp_media_schedules.proofs.Places.{packet, held_with-place, limited-few, length-filter-few}
@@ -25,8 +26,10 @@ use Rattle.rtp_media_schedules.proofs.Windows.{WindowIs, among-more, among-again
 use Rattle.rtp_media_schedules.proofs.Windows.{accepted-first, IsWindowOf-more, IsWindowOf-first, IsWindowOf-again}
 use Rattle.rtp_media_schedules.proofs.Windows.{widened-true}
 use Rattle.rtp_media_schedules.specs.Hearing as hearing
-use Rattle.rtp_media_schedules.specs.Hearing.{Stream, Answer, after_events, answer_among, due, fresh, handed_out, heard}
-use Rattle.rtp_media_schedules.specs.Hearing.{poll_answer, polled, run_among, stream_behind, taken_by}
+use Rattle.rtp_media_schedules.specs.Hearing.{Stream, after_events, due, fresh, handed_out, heard}
+use Rattle.payload_core_buffer.specs.Steps.{Answer, answer_among}
+use Rattle.rtp_media_schedules.specs.Hearing.{poll_answer, polled, stream_behind, taken_by}
+use Rattle.payload_core_buffer.specs.Steps.{run_among}
 use Rattle.rtp_media_schedules.specs.Legal.{IsFinalRunOf}
 use Rattle.rtp_media_schedules.specs.Orders.{IsGoodPoll, IsTame, first_size, has_come, left_after, next_after}
 use Rattle.rtp_media_schedules.specs.Sending.{SentFrame, AreFrames, AreWhole, canonical, canonical_from, sender_of}

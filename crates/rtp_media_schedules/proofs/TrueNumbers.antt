@@ -14,7 +14,7 @@ use Rattle.payload_core_buffer.specs.Packets.{Packet}
 use Rattle.payload_core_buffer.specs.declared.frame.Frame.{Frame}
 use Rattle.rtp_media_schedules.specs.Turns.{Sender, Turn, Arrive, Ask, event_of, is_among}
 use Rattle.rtp_media_schedules.proofs.Places.{packet}
-use Rattle.rtp_wire_values.proofs.WindowLaws.{contains-window_with, eq_by_cmp-nat}
+use Rattle.rtp_wire.proofs.WindowLaws.{contains-window_with, eq_by_cmp-nat}
 use Rattle.rtp_wire.specs.Replay.{Window, accepts, is_accepted, recorded_in, window_at, window_with}
 use Rattle.rtp_media_schedules.specs.Hearing as hearing
 use Rattle.rtp_media_schedules.specs.Hearing.{Stream, after_events, due, fresh, polled, stream_behind, taken_by}

@@ -7,10 +7,10 @@ use Rattle.std.specs.FinSet as set
 use Rattle.std.specs.Cmp.{nat_cmp_total}
 use Rattle.std.proofs.lemmas.Bool.Decides.{nat_tests}
 use Rattle.rtp_wire.specs.Widening.{widened}
-use Rattle.rtp_wire_values.proofs.WindowLaws.{contains-window_with, eq_by_cmp-nat}
+use Rattle.rtp_wire.proofs.WindowLaws.{contains-window_with, eq_by_cmp-nat}
 use Rattle.rtp_wire.specs.Replay.{Window, accepts, reach, window_with, window_at, greatest_in}
 use Rattle.rtp_media_schedules.specs.Turns.{is_among, greatest_of, IsGoodArrival}
-use Rattle.rtp_wire_values.proofs.WideningLaws.{widened-near}
+use Rattle.rtp_wire.proofs.WideningLaws.{widened-near}
 
 pub record IsWindowOf (first : ℕ) (past : List ℕ) (w : Window) : Type 0 where
   pub greatest : w.greatest ≡ greatest_of past

@@ -1,28 +1,28 @@
--- Runs whose polls hold back as many complete frames as each of them says: a poll holds back what its stream does, a
--- drain none.
+-- Runs in which each poll has its own hold-back: a poll that of its stream, a drain none.
 use Rattle.std.specs.Prelude.{ℕ, ◌%◌, List, [], ◌∷◌}
 use Rattle.payload_core_base.specs.Format.{Format}
 use Rattle.payload_core_buffer.specs.Buffered.{holding_of}
-use Rattle.rtp_media_schedules.specs.Hearing.{Answer, Stream, number_at, poll_answer, polled, taken_by}
+use Rattle.payload_core_buffer.specs.Steps.{Answer}
+use Rattle.rtp_media_schedules.specs.Hearing.{Stream, number_at, poll_answer, polled, taken_by}
 use Rattle.rtp_media_schedules.specs.Turns as turns
 use Rattle.rtp_media_schedules.specs.Turns.{Sender, Turn}
 
--- An arrival of the datagram of this true number, or a poll that holds so many complete frames back.
+-- An arrival of the datagram with this true number, or a poll with this hold-back.
 pub data HeldTurn : Type 0 where
   Arrive : (number : ℕ) → HeldTurn
   AskAt : (hold_back : ℕ) → HeldTurn
 
--- The turn, whatever is held back.
+-- The turn, without its hold-back.
 abbrev pub turn_of : HeldTurn → Turn
 turn_of (Arrive x) = turns.Arrive x
 turn_of (AskAt k) = turns.Ask
 
--- The turn at a stream that holds so many back.
+-- The turn at a stream with this hold-back.
 abbrev pub turn_at : ℕ → Turn → HeldTurn
 turn_at k (turns.Arrive x) = Arrive x
 turn_at k turns.Ask = AskAt k
 
--- The stream, holding so many back.
+-- The stream with this hold-back.
 abbrev pub holding_back : ℕ → Stream → Stream
 holding_back k s = record s { holding = holding_of k s.holding.held }
 

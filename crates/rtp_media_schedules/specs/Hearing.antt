@@ -1,24 +1,23 @@
--- What a receiving stream of any payload format answers over a whole run of its own datagrams and polls.
+-- What a receiving stream, of any payload format, answers over a whole run of its own datagrams and polls.
 use Rattle.std.specs.Prelude.{◌≡◌, ℕ, ◌-◌, Bool, if◌then◌else◌, List, [], ◌∷◌, drop}
 use Rattle.std.specs.Prelude.{Option, None, Some, Result, Ok, Err}
 use Rattle.payload_core_base.specs.Format.{Format, Fragment}
 use Rattle.payload_core_base.specs.declared.error.PacketError.{PacketError}
-pub use Rattle.payload_core_buffer.specs.Buffered.{Holding, holding_of, may_hold}
+use Rattle.payload_core_buffer.specs.Buffered.{Holding}
 use Rattle.payload_core_buffer.specs.Buffered.{pushed}
 use Rattle.payload_core_buffer.specs.Frames as frames
 use Rattle.payload_core_buffer.specs.Frames.{due_frame, packets_between}
 use Rattle.payload_core_buffer.specs.Packets.{Packet, packet_from}
 use Rattle.payload_core_buffer.specs.Pops.{PopState, ReadsPart, pop_state}
-pub use Rattle.payload_core_buffer.specs.Steps.{Answer, MediaUnit, answer_among, answer_by, answer_of, run_among}
-pub use Rattle.payload_core_buffer.specs.Steps.{unit_from}
+use Rattle.payload_core_buffer.specs.Steps.{Answer, MediaUnit, answer_among, run_among}
 use Rattle.payload_core_buffer.specs.declared.frame.Frame.{Frame}
 use Rattle.payload_core_buffer.specs.declared.held.RtpMeta.{RtpMeta}
 use Rattle.rtp_wire.specs.Replay.{Window, is_accepted, recorded_in, greatest_in}
 use Rattle.rtp_wire.specs.Widening.{widened}
-use Rattle.rtp_wire.specs.declared.ExtensionValues.{ExtensionValues}
+use Rattle.rtp_wire.specs.declared.values.ExtensionValues.{ExtensionValues}
 
--- What a taken datagram gives besides its number: the RTP timestamp and the marker (RFC 3550 5.1), the
--- values of its header extensions (RFC 8285), and the payload.
+-- What an accepted datagram gives besides its number: timestamp and marker bit (RFC 3550 5.1), header extension values
+-- (RFC 8285), and payload.
 pub record Content : Type 0 where
   pub time : ℕ
   pub marker : Bool
@@ -28,7 +27,7 @@ pub record Content : Type 0 where
 abbrev pub content_of : ℕ → Bool → ExtensionValues → List ℕ → Content
 content_of time marker values bytes = record { time = time; marker = marker; values = values; bytes = bytes }
 
--- What is known of it under a number.
+-- Its metadata, with this number.
 abbrev pub meta_of : ℕ → Content → RtpMeta
 meta_of number content = record {
   seq_no = number;
@@ -47,9 +46,8 @@ pub data Event : Type 0 where
   Comes : (low : ℕ) (content : Content) → Event
   Poll : Event
 
--- What a stream keeps of its own datagrams and polls: how much it holds, the numbers that came, the packets
--- that are held, the last number that is done with, and the fragment that the packets handed on so far leave
--- open.
+-- A receiving stream's state: its limits, the replay window, the packets held, the cutoff, and the fragment left open
+-- by the packets handed out so far.
 pub record Stream : Type 0 where
   pub holding : Holding
   pub window : Option Window
@@ -61,11 +59,11 @@ pub record Stream : Type 0 where
 abbrev pub fresh : Holding → Stream
 fresh holding = record { holding = holding; window = None; held = []; cutoff = None; fragment = None }
 
--- The number that the low bits stand for at this stream.
+-- The full number that the low 16 bits stand for at this stream.
 abbrev pub number_at : Stream → ℕ → ℕ
 number_at s low = widened (greatest_in s.window) low
 
--- The stream after a datagram of a number, which the window refuses or the buffer takes.
+-- The stream after a datagram with this number: the window refuses it, or the buffer takes it.
 abbrev pub taken_by : Stream → ℕ → Content → Stream
 taken_by s number content =
     if is_accepted s.window number
@@ -82,7 +80,7 @@ taken_by s number content =
 unfoldable pub due : Format → Stream → Option Frame
 due format s = due_frame format s.cutoff s.holding.hold_back s.held
 
--- The stream behind a frame: all up to its end is gone, whether it was read or refused.
+-- The stream after a frame: everything up to its end is gone, whether the frame was read or refused.
 abbrev pub stream_behind : Format → Stream → Option Frame → Stream
 stream_behind format s None = s
 stream_behind format s (Some frame) = record {
@@ -99,8 +97,8 @@ polled format s = stream_behind format s (due format s)
 unfoldable pub poll_answer : Format → Stream → Answer
 poll_answer format s = answer_among format s.fragment s.held (due format s)
 
--- Memory ran out for a frame that is due: all stays but the fragment, which is the one that some of its packets leave
--- open.
+-- Memory ran out for a frame that is due: nothing changes but the open fragment, which is the one left by those packets
+-- that were read.
 pub record IsInterrupted (format : Format) (before after : Stream) : Type 0 where
   pub frame : Frame
   pub is_due : due format before ≡ Some frame
@@ -136,7 +134,7 @@ abbrev pub after_events : Format → Stream → List Event → Stream
 after_events format s [] = s
 after_events format s (e ∷ es) = after_events format (heard_step format s e) es
 
--- The answers without those of None.
+-- The answers other than None.
 abbrev pub handed_out : List Answer → List (Result MediaUnit PacketError)
 handed_out [] = []
 handed_out (Ok None ∷ os) = handed_out os

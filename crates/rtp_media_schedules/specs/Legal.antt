@@ -2,12 +2,12 @@
 use Rattle.std.specs.Prelude.{ℕ, suc, ◌≡◌, ◌<◌, ◌≤◌, List, [], ◌∷◌, length, drop, map, slice_index, slice_index_or}
 use Rattle.std.specs.Prelude.{None, Some, Ok}
 use Rattle.payload_core_base.specs.Law.{joined}
-use Rattle.rtp_media_schedules.specs.Hearing.{MediaUnit}
-use Rattle.rtp_media_schedules.specs.Hearing.{Answer, handed_out}
+use Rattle.payload_core_buffer.specs.Steps.{MediaUnit, Answer}
+use Rattle.rtp_media_schedules.specs.Hearing.{handed_out}
 use Rattle.rtp_media_schedules.specs.Sending.{Canonical}
 
--- What is handed out is the unit or, where it has several parts, a nonempty final run of them, with its time
--- and its values; its numbers are numbers of the datagrams of the unit's sample.
+-- What is handed out is the unit, or, if it has several parts, a nonempty suffix of them, with its timestamp and header
+-- extension values; its numbers are among those of its sample's datagrams.
 pub record IsFinalRunOf (c : Canonical) (u : MediaUnit) : Type 0 where
   pub from : c.first ≤ u.first
   pub in_order : u.first ≤ u.last
@@ -18,8 +18,8 @@ pub record IsFinalRunOf (c : Canonical) (u : MediaUnit) : Type 0 where
   pub some_part : part < length c.parts
   pub bytes : u.bytes ≡ joined (drop part c.parts)
 
--- The answers are a legal selection of the units: polls that answer None are left aside, no poll answers
--- a fault, and each unit is passed over or handed out, in order and at most once.
+-- The answers are a legal selection of the units: None is ignored, no poll returns a fault, and each unit is skipped or
+-- handed out, in order and at most once.
 pub data IsLegal : List Canonical → List Answer → Type 0 where
   Ended : {cs : List Canonical} → IsLegal cs []
   Silent : {cs : List Canonical} {os : List Answer} (rest : IsLegal cs os) → IsLegal cs (Ok None ∷ os)
@@ -27,8 +27,8 @@ pub data IsLegal : List Canonical → List Answer → Type 0 where
   HandedOut : {c : Canonical} {cs : List Canonical} {u : MediaUnit} {os : List Answer} (is : IsFinalRunOf c u)
       (rest : IsLegal cs os) → IsLegal (c ∷ cs) (Ok (Some u) ∷ os)
 
--- The same in other words: no poll answers a fault, and there are strictly rising places, one for each unit
--- that is handed out, at which the unit stands of which it is a final run.
+-- The same in other words: no poll returns a fault, and there are strictly increasing indices, one for each unit handed
+-- out, such that it is a suffix of the canonical unit with that index.
 pub record IsSelection (cs : List Canonical) (os : List Answer) : Type 0 where
   pub units : List MediaUnit
   pub no_fault : handed_out os ≡ map Ok units

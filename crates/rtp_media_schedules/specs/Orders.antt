@@ -5,19 +5,19 @@ use Rattle.payload_core_buffer.specs.Buffered.{Holding}
 use Rattle.rtp_wire.specs.Replay.{reach_below}
 use Rattle.rtp_media_schedules.specs.Turns.{Turn, Arrive, Ask, AllCame, IsGoodArrival, IsNear, is_among, waiting}
 
--- An arrival of one of the stream's datagrams, near those that came before.
+-- An arrival of one of the stream's datagrams, near the earlier ones.
 pub record IsSaneArrival (first count : ℕ) (past : List ℕ) (x : ℕ) : Type 0 where
   pub from_first : first ≤ x
   pub before_end : x < first + count
   pub near : IsNear past x
 
--- past: what came, newest first
+-- past: the numbers that came, newest first
 abbrev pub IsSane : ℕ → ℕ → List ℕ → List Turn → Type 0
 IsSane first count past [] = Unit {0}
 IsSane first count past (Arrive x ∷ ts) = IsSaneArrival first count past x × IsSane first count (x ∷ past) ts
 IsSane first count past (Ask ∷ ts) = IsSane first count past ts
 
--- All so many numbers from this one on came.
+-- All the numbers from `next` to `next + size` (exclusive) came.
 abbrev pub has_come : List ℕ → ℕ → ℕ → Bool
 has_come past next size = list_all (is_among past) (range_with_len next size)
 
@@ -34,13 +34,14 @@ abbrev pub first_size : List ℕ → ℕ
 first_size [] = 0
 first_size (size ∷ sizes) = size
 
--- Where nothing was handed out, the first frame came; and enough frames are held back, or all came.
+-- A poll that keeps a schedule tame: the first frame is complete; and enough frames are held back, or everything has
+-- come.
 pub record IsGoodPoll (first count hold_back : ℕ) (past : List ℕ) (size : ℕ) : Type 0 where
   pub begun : has_come past first size ≡ true
   pub held_back : (reach_below ≤ hold_back) ⊎ AllCame first count past
 
--- past: what came, newest first; next: the number of the first packet that was not handed out; left: the
--- sizes of the frames from there on; opening: the size of the very first frame
+-- past: the numbers that came, newest first; next: the first number not yet handed out; left: the sizes of the frames
+-- from there on; opening: the size of the very first frame
 abbrev pub IsTame : (first count : ℕ) → Holding → (opening : ℕ) → List ℕ → ℕ → List ℕ → List Turn → Type 0
 IsTame first count holding opening past next left [] = AllCame first count past
 IsTame first count holding opening past next left (Arrive x ∷ ts) =

@@ -8,7 +8,7 @@ use Rattle.payload_core_base.specs.Packing as packing
 use Rattle.rtp_media_schedules.specs.Hearing.{Content, content_of}
 use Rattle.rtp_media_schedules.specs.SentSamples.{Timed, sent_or, timed}
 use Rattle.rtp_media_schedules.specs.Sending.{Canonical}
-use Rattle.rtp_wire.specs.declared.ExtensionValues.{ExtensionValues}
+use Rattle.rtp_wire.specs.declared.values.ExtensionValues.{ExtensionValues}
 
 -- A sample that was sent: its RTP timestamp, the values of its header extensions that arrive, its packets,
 -- and its units, each as its parts.
@@ -18,7 +18,7 @@ pub record SentSample : Type 0 where
   pub packets : List MarkedPacket
   pub units : List (List (List ℕ))
 
--- In this format the packets of each are the frames of its units.
+-- In this format, each sample's packets are the frames of its units.
 abbrev pub AreSentAs : Format → List SentSample → Type 0
 AreSentAs format [] = Unit {0}
 AreSentAs format (s ∷ ss) = AreFramesOf format s.packets s.units × AreSentAs format ss
@@ -50,7 +50,7 @@ abbrev pub canonical_units : ℕ → List SentSample → List Canonical
 canonical_units n [] = []
 canonical_units n (s ∷ ss) = units_in n s ++ canonical_units (n + length s.packets) ss
 
--- How many packets there are up to each tail, of which so many are open.
+-- The number of packets up to each tail, where `open_` packets came before.
 abbrev pub sizes_from : Format → ℕ → List MarkedPacket → List ℕ
 sizes_from format open_ [] = []
 sizes_from format open_ (p ∷ ps) = if format.tail p.marker p.payload then (open_ + 1) ∷ sizes_from format 0 ps

@@ -6,13 +6,13 @@ use Rattle.payload_core_base.specs.Law.{IsFrameOf, joined}
 use Rattle.payload_core_base.specs.Packing.{MarkedPacket}
 use Rattle.payload_core_base.specs.declared.error.PacketError.{PacketError}
 use Rattle.payload_core_base.specs.declared.extra.CodecExtra.{CodecExtra}
-use Rattle.rtp_media_schedules.specs.Hearing.{Content, MediaUnit, content_of}
+use Rattle.rtp_media_schedules.specs.Hearing.{Content, content_of}
+use Rattle.payload_core_buffer.specs.Steps.{MediaUnit}
 use Rattle.rtp_media_schedules.specs.Turns.{Sender}
 use Rattle.rtp_wire.specs.Values.{absent}
-use Rattle.rtp_wire.specs.declared.ExtensionValues.{ExtensionValues}
+use Rattle.rtp_wire.specs.declared.values.ExtensionValues.{ExtensionValues}
 
--- The packets of one unit, with its RTP timestamp and its values of header extensions, and the parts of
--- the unit.
+-- The packets of one unit, with its timestamp, its header extension values and its parts.
 pub record SentFrame : Type 0 where
   pub time : ℕ
   pub values : ExtensionValues
@@ -33,7 +33,7 @@ abbrev pub total : List ℕ → ℕ
 total [] = 0
 total (z ∷ zs) = z + total zs
 
--- What a frame's datagrams bring.
+-- What the datagrams of a frame contain.
 abbrev pub contents_in : SentFrame → List Content
 contents_in f = map (λ p. content_of f.time p.marker f.values p.payload) f.packets
 
@@ -44,15 +44,15 @@ contents fs = flat_map contents_in fs
 abbrev pub no_content : Content
 no_content = content_of 0 false absent []
 
--- What the datagram of a number brings, where these are numbered from the first on.
+-- The content of the datagram with this number, the first datagram having number `first`.
 abbrev pub numbered : ℕ → List Content → Sender
 numbered first cs x = slice_index_or cs (x - first) no_content
 
 abbrev pub sender_of : ℕ → List SentFrame → Sender
 sender_of first fs = numbered first (contents fs)
 
--- A canonical unit: the numbers of its datagrams, from the first to before the end, its RTP timestamp, the
--- values of its header extensions, and its parts.
+-- A canonical unit: its datagrams' numbers (`end` exclusive), its timestamp, its header extension values, and its
+-- parts.
 pub record Canonical : Type 0 where
   pub first : ℕ
   pub end : ℕ
@@ -69,7 +69,7 @@ abbrev pub canonical_from : ℕ → List SentFrame → List Canonical
 canonical_from n [] = []
 canonical_from n (f ∷ fs) = canonical n f ∷ canonical_from (n + length f.packets) fs
 
--- A canonical unit as it is handed out: whole, with what its format tells beside.
+-- A canonical unit as it is handed out: whole, with its codec data.
 abbrev pub whole : Canonical → CodecExtra → MediaUnit
 whole c extra = record {
   first = c.first;
@@ -80,7 +80,7 @@ whole c extra = record {
   extra = extra;
 }
 
--- What is handed out is these units, one after the other, each whole; what formats tell beside is left open.
+-- Exactly these units are handed out, in order and whole; their codec data is left open.
 abbrev pub AreWhole : List (Result MediaUnit PacketError) → List Canonical → Type 0
 AreWhole [] [] = Unit {0}
 AreWhole [] (c ∷ cs) = ⊥

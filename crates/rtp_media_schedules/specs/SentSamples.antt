@@ -2,8 +2,8 @@
 use Rattle.std.specs.Prelude.{ℕ, List, [], Result, Ok, Err}
 use Rattle.payload_core_base.specs.Packing.{Sender, Sent}
 use Rattle.payload_core_base.specs.declared.error.PacketError.{PacketError}
-use Rattle.rtp_wire.specs.declared.ExtensionValues.{ExtensionValues}
-use Rattle.rtp_media_schedules.specs.Hearing.{MediaUnit}
+use Rattle.rtp_wire.specs.declared.values.ExtensionValues.{ExtensionValues}
+use Rattle.payload_core_buffer.specs.Steps.{MediaUnit}
 
 -- Bytes with their RTP timestamp (RFC 3550 5.1) and values of header extensions (RFC 8285): a sample, or a
 -- unit without its numbers.
@@ -15,7 +15,7 @@ pub record Timed : Type 0 where
 abbrev pub timed : ℕ → ExtensionValues → List ℕ → Timed
 timed time values bytes = record { time = time; values = values; bytes = bytes }
 
--- What a sample leaves: a refused one sends nothing and changes nothing.
+-- A sample's result; a refused sample sends nothing and changes nothing.
 abbrev pub sent_or : Sender → Result Sent PacketError → Sent
 sent_or before (Ok sent) = sent
 sent_or before (Err e) = record { packets = []; sender = before }

@@ -7,13 +7,14 @@ use Rattle.rtp_media_schedules.specs.Turns.{Sender, Turn, Arrive, Ask, greatest_
 use Rattle.rtp_media_schedules.specs.Hearing.{Stream, number_at}
 use Rattle.rtp_media_schedules.specs.Orders.{IsSaneArrival}
 
--- What came in some turns, newest first, behind what came before.
+-- The numbers that came in some turns, newest first, in front of those that came before.
 abbrev pub arrived : List ℕ → List Turn → List ℕ
 arrived past [] = past
 arrived past (Arrive x ∷ ts) = arrived (x ∷ past) ts
 arrived past (Ask ∷ ts) = arrived past ts
 
--- The greatest number recorded is the greatest that came, and in reach of it just those are recorded that came.
+-- The greatest recorded number is the greatest that came; and within its reach, exactly the numbers that came are
+-- recorded.
 pub record IsRecorded (past : List ℕ) (w : Window) : Type 0 where
   pub greatest : w.greatest ≡ greatest_of past
   pub recorded : (y : ℕ) → w.greatest < y + reach → set.contains w.recorded y ≡ is_among past y
@@ -24,18 +25,18 @@ AreRecorded [] (Some w) = ⊥
 AreRecorded (y ∷ ys) None = ⊥
 AreRecorded (y ∷ ys) (Some w) = IsRecorded (y ∷ ys) w
 
--- Numbers that rise, from lo on and below hi.
+-- Increasing numbers, from lo on and below hi.
 abbrev pub Rises : ℕ → ℕ → List ℕ → Type 0
 Rises lo hi [] = Unit {0}
 Rises lo hi (x ∷ xs) = (lo ≤ x) × (x < hi) × Rises (x + 1) hi xs
 
--- The first number that is not done with.
+-- The first number after the cutoff.
 abbrev pub behind : ℕ → Option ℕ → ℕ
 behind first None = first
 behind first (Some c) = c + 1
 
--- The window says what came, each packet that is held is the sender's of its number, above all that is done
--- with, and the low bits of a next arrival stand for its number.
+-- The invariant: the window matches what came; each held packet is the sender's with that number and is above the
+-- cutoff; and the low bits of the next arrival stand for its number.
 pub record AreTrueNumbers (sender : Sender) (first count : ℕ) (past : List ℕ) (s : Stream) : Type 0 where
   pub window : AreRecorded past s.window
   pub numbers : List ℕ

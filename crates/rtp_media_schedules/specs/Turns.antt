@@ -14,7 +14,7 @@ pub data Turn : Type 0 where
 abbrev pub Sender : Type 0
 Sender = ℕ → Content
 
--- What a turn is to the stream, which sees 16 bits of the number (RFC 3550 5.1).
+-- What a turn is to the stream, which sees only 16 bits of the number (RFC 3550 5.1).
 abbrev pub event_of : Sender → Turn → Event
 event_of sender (Arrive x) = Comes (x % 65536) (sender x)
 event_of sender Ask = Poll
@@ -28,13 +28,13 @@ abbrev pub greatest_of : List ℕ → ℕ
 greatest_of [] = 0
 greatest_of (y ∷ ys) = max y (greatest_of ys)
 
--- Less than 32,768 from the greatest that came before, or the first one below 65,536.
+-- Less than 32,768 away from the greatest earlier number; or, as the first arrival, below 65,536.
 abbrev pub IsNear : List ℕ → ℕ → Type 0
 IsNear [] x = x < 65536
 IsNear (y ∷ ys) x = (x < greatest_of (y ∷ ys) + 32768) × (greatest_of (y ∷ ys) < x + 32768)
 
--- An arrival of one of a stream's numbers, near those that came before, newest first; each number that is 1,024
--- or more below it came already.
+-- An arrival of one of the stream's numbers, near the earlier ones (newest first); every number 1,024 or more below it
+-- came before.
 pub record IsGoodArrival (first count : ℕ) (past : List ℕ) (x : ℕ) : Type 0 where
   pub from_first : first ≤ x
   pub before_end : x < first + count
@@ -45,11 +45,11 @@ pub record IsGoodArrival (first count : ℕ) (past : List ℕ) (x : ℕ) : Type 
 abbrev pub AllCame : ℕ → ℕ → List ℕ → Type 0
 AllCame first count past = (y : ℕ) → first ≤ y → y < first + count → is_among past y ≡ true
 
--- Good arrivals, of all numbers in the end.
+-- Good arrivals, which in the end include all numbers.
 abbrev pub AreGoodArrivals : ℕ → ℕ → List ℕ → List ℕ → Type 0
 AreGoodArrivals first count past [] = AllCame first count past
 AreGoodArrivals first count past (x ∷ xs) = IsGoodArrival first count past x × AreGoodArrivals first count (x ∷ past) xs
 
--- How many of the numbers that came were not handed out, where next is the first of these.
+-- How many of the numbers that came were not handed out, where `next` is the first that was not.
 abbrev pub waiting : ℕ → ℕ → List ℕ → ℕ → ℕ
 waiting first count past next = count_by (is_among past) (range_with_len next (first + count - next))

@@ -2,13 +2,13 @@
 
 ghost use Rattle.std.specs.Prelude.{◌≡◌, ◌≢◌, ◌<◌, ◌≤◌, ℕ, List, [], ◌∷◌, Err, Ok, Some};
 ghost use Rattle.payload_core_base.specs.declared.error.PacketError.{PacketError};
-ghost use Rattle.rtp_media_schedules.specs.Hearing.{Answer, MediaUnit};
+ghost use Rattle.payload_core_buffer.specs.Steps.{Answer, MediaUnit};
 ghost use Rattle.rtp_media_schedules.specs.Legal.{IsLegal};
 ghost use Rattle.rtp_media_schedules.specs.Sending.{Canonical};
 
-/// No selection is legal that hands a unit out twice; that hands out a later unit and then an earlier one; that hands
-/// out a unit which reaches from one sample's datagrams into another's; that hands out the front of a unit without its
-/// last part; or in which a poll returns a fault.
+/// A selection isn't legal if it hands a unit out twice; hands out a later unit before an earlier
+/// one; hands out a unit that spans the datagrams of two samples; hands out the beginning of a unit
+/// without its last part; or if a poll returns a fault.
 pub fn not_legal()
     ensures twice { (c : Canonical) (u v : MediaUnit)
         → IsLegal (c ∷ []) (Ok (Some u) ∷ Ok (Some v) ∷ []) → ⊥ }

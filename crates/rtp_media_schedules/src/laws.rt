@@ -7,7 +7,8 @@ ghost use Rattle.payload_core_buffer.specs.Buffered.{Holding};
 ghost use Rattle.payload_core_buffer.specs.Frames.{complete_frames};
 ghost use Rattle.rtp_media_schedules.specs.Turns.{Sender, Turn, AreGoodArrivals, Arrive, Ask, event_of};
 ghost use Rattle.rtp_media_schedules.specs.SentSamples.{timed_unit};
-ghost use Rattle.rtp_media_schedules.specs.Hearing.{Answer, after_events, EndsSilent, fresh, handed_out, heard, Poll};
+ghost use Rattle.payload_core_buffer.specs.Steps.{Answer};
+ghost use Rattle.rtp_media_schedules.specs.Hearing.{after_events, EndsSilent, fresh, handed_out, heard, Poll};
 ghost use Rattle.rtp_media_schedules.specs.Hearing.{Stream, poll_answer, polled};
 ghost use Rattle.rtp_media_schedules.specs.Drains.{HeldTurn, heard_at, holding_back, turn_at, turn_of};
 ghost use Rattle.rtp_media_schedules.specs.Legal.{IsLegal, IsSelection};
@@ -26,8 +27,9 @@ pub fn legal_under_sane_schedule()
         IsLegal (canonical_units first samples) (heard format (fresh holding) events) }
 {}
 
-/// The same where each poll holds back as many complete frames as it says, a drain none, which then is as before: polls
-/// and drains in any order answer a legal selection. Where all hold back what the stream does, they are its polls.
+/// The same if each poll has its own hold-back (a drain: none; otherwise as before): polls and
+/// drains in any order answer a legal selection. If every poll has the stream's own hold-back, they
+/// are its polls.
 pub fn legal_with_drains()
     ensures legal { (format : Format) (holding : Holding) (first : ℕ) (samples : List SentSample)
         (turns : List HeldTurn) →
@@ -40,8 +42,8 @@ pub fn legal_with_drains()
         ≡ heard format s (map (event_of sender) turns) }
 {}
 
-/// A legal selection has strictly rising places, one for each unit that is handed out, at which the unit
-/// stands that it is, or of which it is a final run of parts; and no fault is answered.
+/// A legal selection has strictly increasing indices, one for each unit handed out, such that the
+/// unit is the canonical unit with that index, or a suffix of its parts; and no fault is returned.
 pub fn selections_have_places()
     ensures { (units : List Canonical) (answers : List Answer) → IsLegal units answers → IsSelection units answers }
 {}
@@ -58,8 +60,9 @@ pub fn exact_under_tame_schedule()
         ≡ map (λ c. Ok (whole_unit c)) (canonical_units first samples) }
 {}
 
-/// All datagrams come, no more than may be held, once or more, none behind one that is 1,024 or more above it:
-/// then polls until None give exactly the canonical units, whatever is held back.
+/// If all datagrams come, no more than may be held, each at least once and the first time before
+/// any whose number is 1,024 or more above it, then polling until None gives exactly the canonical
+/// units, whatever the hold-back.
 pub fn exact_after_full_arrival()
     ensures { (format : Format) (holding : Holding) (first polls : ℕ) (samples : List SentSample) (arrivals : List ℕ) →
         let events = map (event_of (numbered first (datagrams samples)))
@@ -72,8 +75,8 @@ pub fn exact_after_full_arrival()
         ≡ map (λ c. Ok (whole_unit c)) (canonical_units first samples) }
 {}
 
-/// Under every sane schedule the window says what came, each packet that is held is the sender's of its
-/// number, and the low bits of a next arrival stand for its number.
+/// Under every sane schedule the window matches what came, every held packet is the sender's with
+/// that number, and the low bits of the next arrival stand for its number.
 pub fn true_numbers()
     ensures { (format : Format) (sender : Sender) (holding : Holding) (first count : ℕ) (turns : List Turn) →
         first + count ≤ 2 ^ 62 → IsSane first count [] turns →
@@ -81,7 +84,7 @@ pub fn true_numbers()
         (after_events format (fresh holding) (map (event_of sender) turns)) }
 {}
 
-/// Polls come to an end: after at most as many as packets are held, one returns None.
+/// Polling ends: None is returned after at most as many polls as packets are held.
 pub fn polls_come_to_an_end()
     ensures { (format : Format) (s : Stream) → EndsSilent (heard format s (replicate (suc (length s.held)) Poll)) }
 {}

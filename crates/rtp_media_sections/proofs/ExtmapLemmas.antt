@@ -6,7 +6,7 @@ use Rattle.std.proofs.lemmas.Bool.Decides.{nat_tests}
 use Rattle.std.proofs.lemmas.List.{get_or-replicate}
 use Rattle.std.specs.Prelude.{fold, slice_index_or, slice_set}
 use Rattle.std.specs.List.{cons_option, filter_map, last_or}
-use Rattle.rtp_wire.specs.declared.Extension.{Extension}
+use Rattle.rtp_wire.specs.declared.extension.Extension.{Extension}
 use Rattle.rtp_wire.specs.Maps.{empty_map}
 use Rattle.rtp_wire.specs.Values.{Numbering}
 use Rattle.rtp_media_sections.specs.Extensions.{LastEntriesCount, given_to, is_numbered, with_entry}

@@ -1,4 +1,4 @@
--- What an exchange agreed on, and which streams it allows.
+-- What an exchange agreed on, and which streams that allows.
 use Rattle.std.specs.Prelude.{◌≡◌, ℕ, Bool, true, false, ◌&&◌, ◌==◌, List, [], ◌∷◌, Option, Some, None, find}
 use Rattle.std.specs.BTreeSet.{BTreeSet, contains}
 use Rattle.std.specs.Ordering.{nat_cmp}
@@ -6,24 +6,23 @@ use Rattle.std.specs.Str.{bytes_eq}
 use Rattle.std.specs.Prelude.{length, nat_le, not, zip}
 use Rattle.std.specs.List.{list_all, list_any}
 use Rattle.std.specs.Option.{option_map}
-use Rattle.payload_core_base.specs.declared.codec.MediaKind.{MediaKind}
+use Rattle.media_types.specs.declared.codec.MediaKind.{MediaKind}
 use Rattle.rtp_wire.specs.Direction.{sends, receives}
 use Rattle.rtp_wire.specs.Maps.{empty_map}
 use Rattle.rtp_wire.specs.Values.{Numbering}
-use Rattle.payload_core_base.specs.declared.codec.MediaKind.TheVariants.{Audio}
+use Rattle.media_types.specs.declared.codec.MediaKind.TheVariants.{Audio}
 use Rattle.sdp_formats_rows.specs.Codecs.{is_codec}
 use Rattle.sdp_formats_rows.specs.DefaultRows.{opus_row}
-use Rattle.sdp_formats_params.specs.declared.format.FormatParams.{FormatParams}
-use Rattle.sdp_formats_rounds.specs.declared.CodecSpec.{CodecSpec}
+use Rattle.sdp_formats_rows.specs.declared.format.FormatParams.{FormatParams}
+use Rattle.sdp_formats_rows.specs.declared.spec.CodecSpec.{CodecSpec}
 use Rattle.sdp_formats_rows.specs.Rows.{Row}
-use Rattle.sdp_formats_params.specs.Same.{same, same_flag}
+use Rattle.sdp_formats_rows.specs.Same.{same, same_flag}
 use Rattle.rtp_media_sections.specs.Extensions.{map_of_extmaps}
 use Rattle.rtp_media_sections.specs.Lines.{repairs_of, ssrcs_of}
 use Rattle.rtp_media_sections.specs.Sections.{Section, Wanted, are_distinct, has_shape}
 
--- A section as an exchange left it: its name and kind, the answer's rows and its map of header extensions, the SSRCs
--- that this end and the other one name in it, and their pairs of an SSRC and that of its repairs, and whether it flows
--- from this end and to it.
+-- A section as agreed: its mid and kind; the answer's rows and extension map; the SSRCs each end names in it, and their
+-- (SSRC, RTX SSRC) pairs; and whether media flows from this end and to it.
 pub record Agreed : Type 0 where
   pub mid : List ℕ
   pub kind : MediaKind
@@ -39,16 +38,17 @@ pub record Agreed : Type 0 where
 abbrev pub is_agreed : Agreed × Wanted → Bool
 is_agreed p = has_shape p.0.mid p.0.kind p.1
 
--- Whether wanted sections begin with the agreed ones, by names and kinds.
+-- Whether the wanted sections start with the agreed ones, by mid and kind.
 abbrev pub begins_with : List Wanted → List Agreed → Bool
 begins_with wanted agreed = nat_le (length agreed) (length wanted) && list_all is_agreed (zip agreed wanted)
 
--- Whether sections may be exchanged behind the agreed ones: there is one, no name stands twice, and they begin with the
+-- Whether an exchange of these sections may follow: there is at least one, no mid occurs twice, and they start with the
 -- agreed ones.
 abbrev pub may_follow : List Agreed → List Wanted → Bool
 may_follow agreed wanted = not (length wanted == 0) && (are_distinct [] wanted && begins_with wanted agreed)
 
--- What both fixed ends agree on: section `0`, Opus at type 111, no header extension, SSRC 44 at either side.
+-- What both fixed ends have agreed on: section `0`, Opus with payload type 111, no header extensions, SSRC 44 on both
+-- sides.
 abbrev pub fixed_section : Agreed
 fixed_section = record {
   mid = 48 ∷ [];
@@ -63,8 +63,8 @@ fixed_section = record {
   receives = true;
 }
 
--- A section of the answer and of the other end's text: name, kind, rows and extensions of the answer, the SSRCs and
--- repairs that this end wanted and those that the other end's text names, and how it flows.
+-- An agreed section: mid, kind, rows and extensions from the answer; SSRCs and RTX pairs from what this end wanted and
+-- from the other end's text; and the directions of flow.
 abbrev pub agreed : Wanted → Section → Section → Bool → Bool → Agreed
 agreed w remote answer from to = record {
   mid = answer.mid;
@@ -79,11 +79,11 @@ agreed w remote answer from to = record {
   receives = to;
 }
 
--- What the end agrees on that answers a section: it flows as the answer says.
+-- What the answering end agrees on: media flows as the answer says.
 unfoldable pub agreed_by_answer : Wanted → Section → Section → Agreed
 agreed_by_answer w offer answer = agreed w offer answer (sends answer.dir) (receives answer.dir)
 
--- What the end agrees on that offered it: it flows where the answer lets it and the offer asked for it.
+-- What the offering end agrees on: media flows as far as both its offer and the answer allow.
 unfoldable pub agreed_by_accept : Wanted → Section → Agreed
 agreed_by_accept w answer =
     agreed w answer answer (receives answer.dir && sends w.dir) (sends answer.dir && receives w.dir)
@@ -100,7 +100,7 @@ abbrev pub row_of_section : Option Agreed → ℕ → Option Row
 row_of_section None pt = None
 row_of_section (Some a) pt = row_in a.rows pt
 
--- The row of a payload type in the answer's section of a name.
+-- The row with this payload type in the agreed section with this mid.
 abbrev pub agreed_row_of : List Agreed → List ℕ → ℕ → Option Row
 agreed_row_of agreed mid pt = row_of_section (section_of agreed mid) pt
 
@@ -116,8 +116,7 @@ abbrev pub remote_repairs_in : Option Agreed → List (ℕ × ℕ)
 remote_repairs_in None = []
 remote_repairs_in (Some a) = a.remote_repairs
 
--- The pairs of an SSRC and that of its repairs that this end names in the section of a name, and those of the other
--- end.
+-- The (SSRC, RTX SSRC) pairs that this end, or the other one, names in the section with this mid.
 abbrev pub own_repairs_of : List Agreed → List ℕ → List (ℕ × ℕ)
 own_repairs_of agreed mid = own_repairs_in (section_of agreed mid)
 
@@ -144,28 +143,27 @@ map_of_text sections mid = option_map (λ s. map_of_extmaps s.extmaps) (said_of 
 abbrev pub is_named : List ℕ → ℕ → Bool
 is_named ssrcs ssrc = list_any (λ s. s == ssrc) ssrcs
 
--- A set of SSRCs has those of a list.
+-- The set holds exactly the SSRCs of the list.
 abbrev pub IsSetOf : List ℕ → BTreeSet ℕ → Type 0
 IsSetOf ssrcs set = (ssrc : ℕ) → contains nat_cmp set ssrc ≡ is_named ssrcs ssrc
 
--- One codec at one clock rate with one number of channels.
+-- The same codec, clock rate and number of channels.
 abbrev pub same_codec : CodecSpec → CodecSpec → Bool
 same_codec a b = is_codec a.codec b.codec && ((a.clock_rate == b.clock_rate) && same a.channels b.channels)
 
--- One layout of payloads.
+-- The same payload layout.
 abbrev pub same_layout : FormatParams → FormatParams → Bool
 same_layout a b = same_flag a.octet_align b.octet_align && same a.sprop_max_don_diff b.sprop_max_don_diff
 
--- Whether two rows mean the same to a stream: codec, clock rate, channels, layout, decoding order numbers and RED type.
+-- Whether two rows are the same to a stream: codec, clock rate, channels, layout, decoding order numbers and RED type.
 abbrev pub means_same : Row → Row → Bool
 means_same a b = same_codec a.spec b.spec && (same_layout a.spec.format b.spec.format && same a.red b.red)
 
--- Whether one of an end's own rows is locked at the type of an agreed one and means the same.
+-- Whether one of an end's own rows is locked with the agreed row's payload type and is the same to a stream.
 unfoldable pub own_row_agrees : List Row → Row → Bool
 own_row_agrees own row = list_any (λ r. r.locked && ((r.pt == row.pt) && means_same r row)) own
 
--- Each row that was agreed on is the one that the text's sections list, and no other is; and so is the map of header
--- extensions.
+-- The agreed rows are exactly those that the text's sections list, and so are the extension maps.
 pub record AgreesOn (sections : List Section) (agreed : List Agreed) : Type 0 where
   pub rows : (mid : List ℕ) (pt : ℕ) → agreed_row_of agreed mid pt ≡ row_of_text sections mid pt
   pub maps : (mid : List ℕ) → agreed_map_of agreed mid ≡ map_of_text sections mid

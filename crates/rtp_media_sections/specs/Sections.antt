@@ -1,18 +1,18 @@
--- Sections as an end wants them, and what sections of texts say.
+-- Sections as an end wants them, and what the sections of a text say.
 use Rattle.std.specs.Prelude.{ℕ, Bool, true, not, ◌&&◌, ◌==◌, length, zip, List, [], ◌∷◌, ◌++◌}
 use Rattle.std.specs.List.{list_all, list_any}
 use Rattle.std.specs.Str.{bytes_eq}
-use Rattle.payload_core_base.specs.Codecs.{is_audio_kind, is_video_kind}
-use Rattle.payload_core_base.specs.declared.codec.MediaKind.{MediaKind}
-use Rattle.payload_core_base.specs.declared.codec.MediaKind.TheVariants.{Audio, Video}
-use Rattle.rtp_wire.specs.declared.Direction.{Direction}
-use Rattle.rtp_wire.specs.declared.Extension.{Extension}
+use Rattle.media_types.specs.Codecs.{is_audio_kind, is_video_kind}
+use Rattle.media_types.specs.declared.codec.MediaKind.{MediaKind}
+use Rattle.media_types.specs.declared.codec.MediaKind.TheVariants.{Audio, Video}
+use Rattle.rtp_wire.specs.declared.direction.Direction.{Direction}
+use Rattle.rtp_wire.specs.declared.extension.Extension.{Extension}
 use Rattle.sdp_formats_rows.specs.Rows.{Row}
 use Rattle.rtp_media_sections.specs.Repairs.{are_sound_pairs}
 use Rattle.rtp_media_sections.specs.declared.sections.Source.{Source}
 
--- A section as an end wants it: its name, its kind, which way media shall flow, the SSRCs that the end sends under, and
--- pairs of one of them and the SSRC of its repairs.
+-- A section as an end wants it: its mid, its kind, its direction, the SSRCs the end sends under, and (SSRC, RTX SSRC)
+-- pairs.
 pub record Wanted : Type 0 where
   pub mid : List ℕ
   pub kind : MediaKind
@@ -27,9 +27,9 @@ is_sound w = are_sound_pairs w.ssrcs w.repairs
 abbrev pub are_sound : List Wanted → Bool
 are_sound sections = list_all is_sound sections
 
--- What a section of a text says: its name and kind; whether it is audio or video over RTP and not of port 0; its
--- direction; its rows, each with its RTX and its RED type; each of its lines of header extensions, in order; and its
--- sources, each once, with those that they repair.
+-- What a section of a text says: its mid and kind; whether it is audio or video over RTP and not rejected by port 0;
+-- its direction; its rows with their RTX and RED types; its header extension lines, in order; and its sources, each
+-- once, with the SSRC it repairs, if any.
 pub record Section : Type 0 where
   pub mid : List ℕ
   pub kind : MediaKind
@@ -57,7 +57,7 @@ corresponds sections wanted = length sections == length wanted && list_all is_wa
 abbrev pub has_mid : List ℕ → Wanted → Bool
 has_mid mid w = bytes_eq w.mid mid
 
--- Whether no name stands twice, nor among those before.
+-- Whether no mid occurs twice, or is among the earlier ones.
 abbrev pub are_distinct : List Wanted → List Wanted → Bool
 are_distinct before [] = true
 are_distinct before (w ∷ rest) = not (list_any (has_mid w.mid) before) && are_distinct (before ++ w ∷ []) rest

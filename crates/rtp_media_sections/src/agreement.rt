@@ -12,9 +12,10 @@ use crate::repairs::{repairing_of, repairs_in};
 use crate::sections::Section;
 use crate::ssrc_list::SsrcList;
 use crate::wanted::SectionSpec;
-use payload_core_base::MediaKind;
+use media_types::MediaKind;
 use rtp_wire::{ExtensionMap, Mid, Pt, Ssrc};
-use sdp_formats_rounds::{CodecConfig, PayloadParams};
+use sdp_formats_rounds::CodecConfig;
+use sdp_formats_rows::PayloadParams;
 use std::alloc::{AllocError, Global};
 use std::marker::Model;
 
@@ -33,7 +34,7 @@ pub struct AgreedSection {
     receives: bool,
 }
 
-/// Written by hand so that crates that drop this type need no proof about its fields.
+/// Written by hand, so that crates that drop this type need no proof about its fields.
 impl Drop for AgreedSection {
     fn drop(self) {
         let AgreedSection {
@@ -220,7 +221,7 @@ impl AgreedSection {
     }
 }
 
-/// The SSRCs that a section names: those of its sources of which it doesn't say that they repair.
+/// The SSRCs that a section names, except RTX SSRCs.
 fn ssrcs_of(alloc: Global, section: &Section) -> Result<Vec<Ssrc>, AllocError>
     ensures { IfOk result (λ ssrcs. ssrcs.items ≡ ssrcs_of section.now) }
 {

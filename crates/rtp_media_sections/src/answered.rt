@@ -11,7 +11,8 @@ use crate::offered::sources_wanted;
 use crate::sections::Section;
 use crate::wanted::SectionSpec;
 use rtp_wire::{Direction, ExtensionMap, Pt};
-use sdp_formats_rounds::{CodecConfig, PayloadParams};
+use sdp_formats_rounds::CodecConfig;
+use sdp_formats_rows::PayloadParams;
 use std::alloc::{AllocError, Global};
 
 /// The direction that sends and receives so.
@@ -102,8 +103,8 @@ fn rows_answering(
     Ok(rows)
 }
 
-/// The rows that the answer to an offered section lists: in the offered order and each once, the locked rows under
-/// whose types offered rows are used (RFC 3264 6.1).
+/// The rows of the answer to an offered section: in the offered order, each once, the locked rows
+/// whose payload types are used for the offered rows (RFC 3264 6.1).
 fn answered_rows(
     alloc: Global,
     config: &CodecConfig,

@@ -8,7 +8,7 @@ ghost use Rattle.rtp_media_sections.specs.Sections.{are_distinct, corresponds, h
 use crate::agreement::AgreedSection;
 use crate::sections::Section;
 use crate::wanted::SectionSpec;
-use payload_core_base::MediaKind;
+use media_types::MediaKind;
 use rtp_wire::Mid;
 use std::alloc::{AllocError, Global};
 use std::collections::BTreeSet;

@@ -8,11 +8,13 @@ ghost use Rattle.rtp_media_sections.specs.Lines.{type_of, types_listed};
 
 use crate::repairs::repairs_in;
 use crate::sections::{Section, Source};
-use payload_core_base::MediaKind;
+use media_types::MediaKind;
 use rtp_wire::{Extension, Pt, Ssrc};
-use sdp_formats_data::{Listed, MediaAttribute, MediaLine, MediaType, Proto, Text};
-use sdp_formats_rounds::PayloadParams;
+use sdp_formats_data::{MediaAttribute, MediaLine};
+use sdp_formats_grammar::{Listed, Text};
+use sdp_formats_rows::PayloadParams;
 use sdp_formats_section_rows::AsMediaAttrs;
+use sdp_formats_values::{MediaType, Proto};
 use std::alloc::{AllocError, Global};
 
 fn type_of(kind: MediaKind) -> MediaType

@@ -1,12 +1,13 @@
 //! What rows mean to streams.
 
 ghost use Rattle.std.specs.Prelude.{◌≡◌};
-ghost use Rattle.sdp_formats_params.specs.Same.{same};
+ghost use Rattle.sdp_formats_rows.specs.Same.{same};
 ghost use Rattle.rtp_media_sections.specs.Agreement.{means_same, own_row_agrees, same_codec, same_layout};
 
 use rtp_wire::Pt;
-use sdp_formats_params::{same_byte, same_flag, same_half_word};
-use sdp_formats_rounds::{CodecSpec, FormatParams, PayloadParams};
+use sdp_formats_rows::{
+    CodecSpec, FormatParams, PayloadParams, same_byte, same_flag, same_half_word,
+};
 
 fn same_type(a: Option<Pt>, b: Option<Pt>) -> bool
     ensures { result ≡ same a b }

@@ -36,7 +36,7 @@ fn push_repairing(sources: &mut Vec<Source>, repairs: &[(Ssrc, Ssrc)]) -> Result
     Ok(())
 }
 
-/// The sources of a wanted section: its SSRCs, and behind them those of their repairs.
+/// The sources of a wanted section: its SSRCs, then their RTX SSRCs.
 pub(crate) fn sources_wanted(alloc: Global, wanted: &SectionSpec) -> Result<Vec<Source>, AllocError>
     ensures { IfOk result (λ sources. sources.items ≡ sources_wanted wanted.now) }
 {

@@ -3,9 +3,10 @@
 ghost use Rattle.std.specs.Prelude.{◌≡◌};
 ghost use Rattle.rtp_media_sections.specs.Lines.{is_media_line, kind_of, mid_of};
 
-use payload_core_base::MediaKind;
+use media_types::MediaKind;
 use rtp_wire::Mid;
-use sdp_formats_data::{MediaLine, MediaType, Proto};
+use sdp_formats_data::MediaLine;
+use sdp_formats_values::{MediaType, Proto};
 
 /// The name of a section, which each that was read has; the empty name where there is none.
 pub fn mid_of(line: &MediaLine) -> Mid

@@ -27,8 +27,8 @@ fn is_repairing(pairs: &[(Ssrc, Ssrc)], ssrc: Ssrc) -> bool
     pairs.iter().any(|p| p.1.get() == ssrc.get())
 }
 
-/// Whether pairs of an SSRC and that of its repairs fit the SSRCs of a section: each primary is one of the SSRCs and no
-/// repairing one is; no two primaries and no two repairing ones are the same.
+/// Whether (SSRC, RTX SSRC) pairs fit the SSRCs of a section: each primary is one of the SSRCs, no
+/// RTX SSRC is; primaries are distinct, and so are RTX SSRCs.
 pub fn are_sound_pairs(ssrcs: &[Ssrc], pairs: &[(Ssrc, Ssrc)]) -> bool
     ensures { result ≡ are_sound_pairs ssrcs.now pairs.now }
 {
@@ -55,7 +55,7 @@ fn push_pair(pairs: &mut Vec<(Ssrc, Ssrc)>, source: &Source) -> Result<(), Alloc
     Ok(())
 }
 
-/// The pairs of an SSRC and that of its repairs that sources make, in their order.
+/// The (SSRC, RTX SSRC) pairs of sources, in order.
 pub(crate) fn repairs_in(alloc: Global, sources: &[Source]) -> Result<Vec<(Ssrc, Ssrc)>, AllocError>
     ensures { IfOk result (λ pairs. pairs.items ≡ repairs_in sources.now) }
 {
@@ -84,7 +84,7 @@ fn repairing_in(pair: Option<(Ssrc, Ssrc)>) -> Option<Ssrc>
     }
 }
 
-/// The SSRC whose packets repair those of this one: that of the first pair.
+/// The RTX SSRC of this SSRC: that of the first pair.
 pub(crate) fn repairing_of(pairs: &[(Ssrc, Ssrc)], ssrc: Ssrc) -> Option<Ssrc>
     ensures { result ≡ repairing_of pairs.now ssrc }
 {

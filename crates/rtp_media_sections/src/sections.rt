@@ -6,10 +6,10 @@ ghost use Rattle.sdp_formats_data.specs.Sections.{extmap_in};
 ghost use Rattle.rtp_media_sections.specs.Lines.{section_of, sources_in};
 
 use crate::read::{is_media_line, kind_of, mid_of};
-use payload_core_base::MediaKind;
+use media_types::MediaKind;
 use rtp_wire::{Direction, Extension, Mid, Ssrc};
 use sdp_formats_data::{MediaAttribute, MediaLine};
-use sdp_formats_rounds::PayloadParams;
+use sdp_formats_rows::PayloadParams;
 use sdp_formats_section_rows::RtpParams;
 use std::alloc::{AllocError, Global};
 use std::marker::Model;

@@ -8,7 +8,7 @@ use std::alloc::{AllocError, Global};
 use std::collections::BTreeSet;
 use std::marker::Model;
 
-/// SSRCs in the order in which a section names them, and as a set, by which one is found.
+/// SSRCs in the order in which a section names them, and as a set for lookup.
 #[derive(Debug, Drop)]
 pub(crate) struct SsrcList {
     listed: Vec<Ssrc>,

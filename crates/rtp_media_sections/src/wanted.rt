@@ -5,7 +5,7 @@ ghost use Rattle.rtp_media_sections.specs.Repairs.{ArePairsOf};
 ghost use Rattle.rtp_media_sections.specs.Sections.{are_sound, is_sound};
 
 use crate::repairs::are_sound_pairs;
-use payload_core_base::MediaKind;
+use media_types::MediaKind;
 use rtp_wire::{Direction, Mid, Ssrc};
 use std::marker::Model;
 
@@ -39,8 +39,8 @@ impl Model for SectionSpec {
 }
 
 impl SectionSpec {
-    /// Whether the repairs fit the SSRCs: the repaired ones are distinct and each is one of the SSRCs, those of the
-    /// repairs are distinct and none is one of them. It is so without repairs.
+    /// Whether the RTX pairs fit the SSRCs: the repaired SSRCs are distinct and among the SSRCs;
+    /// the RTX SSRCs are distinct and not among them. Trivially true without pairs.
     pub fn is_sound(&self) -> bool
         ensures value { result ≡ is_sound self.now }
         ensures exactly { IsTrue result ↔ ArePairsOf self.now.ssrcs self.now.repairs }

@@ -2,12 +2,12 @@
 use Rattle.std.proofs.Common.{◌≡◌, ◌+◌, ap, refl, arith, Bool, true, ◌&&◌, List, [], ◌∷◌, ◌++◌, length, length-append}
 use Rattle.std.proofs.lemmas.Bool.Decides.{nat_tests}
 use Rattle.std.proofs.lemmas.List.{get_or_push}
-use Rattle.std.specs.Prelude.{nat_lt, not}
+use Rattle.std.specs.Prelude.{nat_lt}
 use Rattle.rtp_media_streams.specs.Receiving.{Receiving}
 use Rattle.rtp_media_streams.specs.Sending.{Sending}
 use Rattle.rtp_media_stream_table.specs.declared.open_stream.OpenStream.{OpenStream}
 use Rattle.rtp_media_stream_table.specs.declared.open_stream.OpenStream.TheVariants.{Sender, Receiver}
-use Rattle.rtp_media_stream_table.specs.Streams.{is_nth_receiver, is_nth_sender, is_sending, no_receiver, nth_stream}
+use Rattle.rtp_media_stream_table.specs.Streams.{is_nth_receiver, is_nth_sender, is_receiving, is_sending, no_receiver, nth_stream}
 
 within : (ss : List OpenStream) (x : OpenStream) → nat_lt (length ss) (length (ss ++ x ∷ [])) ≡ true
 within ss x = let more : length (ss ++ x ∷ []) ≡ length ss + 1 = length-append ss (x ∷ []) in
@@ -28,4 +28,4 @@ pub receives-at-end : (ss : List OpenStream) (r : Receiving)
     → is_nth_receiver (ss ++ Receiver r ∷ []) (length ss) ≡ true
 receives-at-end ss r =
     both (nat_lt (length ss) (length (ss ++ Receiver r ∷ []))) _ (within ss (Receiver r))
-    (ap (λ (x : OpenStream). not (is_sending x)) (last-is ss (Receiver r)))
+    (ap is_receiving (last-is ss (Receiver r)))

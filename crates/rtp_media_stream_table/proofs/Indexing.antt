@@ -5,7 +5,7 @@ use Rattle.std.proofs.lemmas.Bool.Decides.{nat_tests}
 use Rattle.std.proofs.lemmas.List.{get_or-set_same, get_or-set_other, length-set, get_or_push}
 use Rattle.std.proofs.lemmas.List.{get_or_append_left}
 use Rattle.std.proofs.lemmas.List.Folds.{list_any_at}
-use Rattle.std.specs.Prelude.{◌==◌, nat_lt, Option, Some, None, if◌then◌else◌, is_some, position, slice_set}
+use Rattle.std.specs.Prelude.{◌==◌, nat_lt, Option, Some, None, if◌then◌else◌, is_some, position, slice_set, unwrap_or}
 use Rattle.std.specs.List.{list_any}
 use Rattle.rtp_media_streams.specs.Polls.{Answers}
 use Rattle.rtp_media_streams.specs.Receiving.{Receiving, with_stream}
@@ -16,7 +16,7 @@ use Rattle.rtp_media_streams.specs.declared.types.RepairKey.{RepairKey}
 use Rattle.rtp_media_streams.specs.declared.types.PayloadTypes.{PayloadTypes}
 use Rattle.rtp_media_stream_table.specs.Arrivals.{takes}
 use Rattle.rtp_media_stream_table.specs.declared.open_stream.OpenStream.{OpenStream}
-use Rattle.rtp_media_stream_table.specs.declared.open_stream.OpenStream.TheVariants.{Sender, Receiver}
+use Rattle.rtp_media_stream_table.specs.declared.open_stream.OpenStream.TheVariants.{Closed, Sender, Receiver}
 use Rattle.rtp_media_stream_table.specs.declared.stream_index.StreamIndex.{StreamIndex}
 use Rattle.rtp_media_stream_table.specs.Streams.{no_receiver, nth_stream, receives_as, receiving_of, sends_as}
 use Rattle.rtp_media_stream_table.specs.Polled.{AnswersAll, AnswersSome, ArePolledOut, ArePolledSome}
@@ -75,6 +75,10 @@ takes-either ssrc pt None None (Sender s) = refl
 takes-either ssrc pt None (Some key) (Sender s) = refl
 takes-either ssrc pt (Some red) None (Sender s) = refl
 takes-either ssrc pt (Some red) (Some key) (Sender s) = refl
+takes-either ssrc pt None None Closed = refl
+takes-either ssrc pt None (Some key) Closed = refl
+takes-either ssrc pt (Some red) None Closed = refl
+takes-either ssrc pt (Some red) (Some key) Closed = refl
 takes-either ssrc pt None None (Receiver r) = refl
 takes-either ssrc pt None (Some key) (Receiver r) = refl
 takes-either ssrc pt (Some red) None (Receiver r) = refl
@@ -83,6 +87,10 @@ takes-either ssrc pt (Some red) (Some key) (Receiver r) = refl
 sends-either : (ssrc pt : ℕ) (red : Option ℕ) (repair : Option RepairKey) (x : OpenStream)
     → sends_as ssrc (record { pt = pt; red = red; repair = repair }) x
     ≡ (sends ssrc pt x || (has_red sends ssrc red x || has_repair sends repair x))
+sends-either ssrc pt None None Closed = refl
+sends-either ssrc pt None (Some key) Closed = refl
+sends-either ssrc pt (Some red) None Closed = refl
+sends-either ssrc pt (Some red) (Some key) Closed = refl
 sends-either ssrc pt None None (Receiver r) = refl
 sends-either ssrc pt None (Some key) (Receiver r) = refl
 sends-either ssrc pt (Some red) None (Receiver r) = refl
@@ -116,6 +124,9 @@ could-be-sent ssrc types ss a b c h k m =
     (sends_as ssrc types) (sends-either ssrc types.pt types.red types.repair) ss)
 
 -- ---- kept
+
+some-is : (a b : ℕ) → Some a ≡ Some b → a ≡ b
+some-is a b e = ap (λ (o : Option ℕ). unwrap_or o 0) e
 
 -- a stream put where one stands that has what it has
 module _ (has : ℕ → ℕ → OpenStream → Bool) (index : StreamIndex) (ss : List OpenStream) (m : ℕ) (y : OpenStream)
@@ -156,6 +167,55 @@ kept-sender senders receivers ss m x y is ssrc types indexed = record {
   sending = kept sends senders ss m (Sender y) (λ s p own. ap (sends s p) is
       ∙ ap₂ (λ (a : ℕ) (t : PayloadTypes). is_key_of a t s p) (sym ssrc) (sym types) ∙ own) indexed.sending;
   receiving = kept takes receivers ss m (Sender y) (λ s p no. absurd (true≢false (sym no))) indexed.receiving;
+}
+
+-- a stream closed, and what it had removed
+module _ (has : ℕ → ℕ → OpenStream → Bool) (none : (ssrc pt : ℕ) → has ssrc pt Closed ≡ false)
+    (before after : StreamIndex) (ss : List OpenStream) (m ssrc : ℕ) (types : PayloadTypes)
+    (own : (s p : ℕ) → is_key_of ssrc types s p ≡ true → has s p (nth_stream ss m) ≡ true) (within : m < length ss)
+    (others : (s p : ℕ) → is_key_of ssrc types s p ≡ false → number_at after s p ≡ number_at before s p)
+    (indexed : IsIndexed has before ss) where
+  apart : (n s p : ℕ) (key : Bool) → is_key_of ssrc types s p ≡ key → n ≢ m → number_at before s p ≡ Some n
+      → number_at after s p ≡ Some n
+  apart n s p false key ne is = others s p key ∙ is
+  apart n s p true key ne is = absurd (ne (some-is n m (sym is ∙ indexed m s p within (own s p key))))
+
+  closed-at : (n s p : ℕ) (here : Bool) → (n == m) ≡ here → n < length ss
+      → has s p (nth_stream (slice_set ss m Closed) n) ≡ true → number_at after s p ≡ Some n
+  closed-at n s p true here lt has_it =
+      let at : n ≡ m = grind (arith, nat_tests, here) in
+      absurd (true≢false (sym has_it ∙ ap (λ (k : ℕ). has s p (nth_stream (slice_set ss m Closed) k)) at
+      ∙ ap (has s p) (get_or-set_same ss m Closed (Receiver no_receiver) within) ∙ none s p))
+  closed-at n s p false here lt has_it =
+      let other : n ≢ m = λ (e : n ≡ m). true≢false (grind (arith, nat_tests, here, e)) in
+      apart n s p (is_key_of ssrc types s p) refl other (indexed n s p lt
+      (ap (has s p) (sym (get_or-set_other ss m n Closed (Receiver no_receiver) other)) ∙ has_it))
+
+  pub closed : IsIndexed has after (slice_set ss m Closed)
+  closed n s p lt has_it =
+      closed-at n s p (n == m) refl (omega (arith, lt, length-set ss m Closed)) has_it
+
+-- A sending stream is closed.
+pub closed-sender : (before after receivers : StreamIndex) (ss : List OpenStream) (m : ℕ) (x : Sending) (ssrc : ℕ)
+    (types : PayloadTypes) → nth_stream ss m ≡ Sender x → x.ssrc ≡ ssrc → x.types ≡ types → m < length ss
+    → ((s p : ℕ) → is_key_of ssrc types s p ≡ false → number_at after s p ≡ number_at before s p)
+    → AreIndexed before receivers ss → AreIndexed after receivers (slice_set ss m Closed)
+closed-sender before after receivers ss m x ssrc types is is_ssrc is_types within others indexed = record {
+  sending = closed sends (λ s p. refl) before after ss m ssrc types (λ s p key. ap (sends s p) is
+      ∙ ap₂ (λ (a : ℕ) (t : PayloadTypes). is_key_of a t s p) is_ssrc is_types ∙ key) within others indexed.sending;
+  receiving = kept takes receivers ss m Closed (λ s p no. absurd (true≢false (sym no))) indexed.receiving;
+}
+
+-- A receiving stream is closed.
+pub closed-receiver : (senders before after : StreamIndex) (ss : List OpenStream) (m : ℕ) (x : Receiving) (ssrc : ℕ)
+    (types : PayloadTypes) → nth_stream ss m ≡ Receiver x → x.ssrc ≡ ssrc → x.types ≡ types → m < length ss
+    → ((s p : ℕ) → is_key_of ssrc types s p ≡ false → number_at after s p ≡ number_at before s p)
+    → AreIndexed senders before ss → AreIndexed senders after (slice_set ss m Closed)
+closed-receiver senders before after ss m x ssrc types is is_ssrc is_types within others indexed = record {
+  sending = kept sends senders ss m Closed (λ s p no. absurd (true≢false (sym no))) indexed.sending;
+  receiving = closed takes (λ s p. refl) before after ss m ssrc types (λ s p key. ap (takes s p) is
+      ∙ ap₂ (λ (a : ℕ) (t : PayloadTypes). is_key_of a t s p) is_ssrc is_types ∙ key) within others
+      indexed.receiving;
 }
 
 -- as many streams, each with what the one before had
@@ -217,6 +277,7 @@ pushed has index ss x indexed new n ssrc pt lt own = by (nat_lt n (length ss)) r
 not-sent : (x : OpenStream) (ssrc : ℕ) (types : PayloadTypes) (s p : ℕ) → is_key_of ssrc types s p ≡ true
     → sends_as ssrc types x ≡ false → sends s p x ≡ false
 not-sent (Receiver r) ssrc types s p among none = refl
+not-sent Closed ssrc types s p among none = refl
 not-sent (Sender t) ssrc types s p among none = by (is_key_of t.ssrc t.types s p) refl where
   by : (b : Bool) → is_key_of t.ssrc t.types s p ≡ b → is_key_of t.ssrc t.types s p ≡ false
   by true e = absurd (true≢false (sym (shares t.ssrc t.types ssrc types s p e among) ∙ none))
@@ -285,18 +346,22 @@ as-polled r y same is = is ∙ ap Receiver same
 
 some-takes : (x y : OpenStream) → AnswersSome x y → (s p : ℕ) → takes s p y ≡ takes s p x
 some-takes (Sender t) y a s p = ap (takes s p) a
+some-takes Closed y a s p = ap (takes s p) a
 some-takes (Receiver r) y a s p = ap (takes s p) (as-polled r y (some-keeps a.0) a.1)
 
 some-sends : (x y : OpenStream) → AnswersSome x y → (s p : ℕ) → sends s p y ≡ sends s p x
 some-sends (Sender t) y a s p = ap (sends s p) a
+some-sends Closed y a s p = ap (sends s p) a
 some-sends (Receiver r) y a s p = ap (sends s p) (as-polled r y (some-keeps a.0) a.1)
 
 all-takes : (x y : OpenStream) (answers : Answers) → AnswersAll x answers y → (s p : ℕ) → takes s p y ≡ takes s p x
 all-takes (Sender t) y answers a s p = ap (takes s p) a.1
+all-takes Closed y answers a s p = ap (takes s p) a.1
 all-takes (Receiver r) y answers a s p = ap (takes s p) (as-polled r y (polled-keeps a.0) a.1)
 
 all-sends : (x y : OpenStream) (answers : Answers) → AnswersAll x answers y → (s p : ℕ) → sends s p y ≡ sends s p x
 all-sends (Sender t) y answers a s p = ap (sends s p) a.1
+all-sends Closed y answers a s p = ap (sends s p) a.1
 all-sends (Receiver r) y answers a s p = ap (sends s p) (as-polled r y (polled-keeps a.0) a.1)
 
 pub polled-some : (senders receivers : StreamIndex) (ss ts : List OpenStream) → ArePolledSome ss ts

@@ -11,7 +11,7 @@ use Rattle.rtp_media_streams.specs.declared.types.RepairKey.{RepairKey}
 use Rattle.rtp_media_streams.specs.declared.types.PayloadTypes.{PayloadTypes}
 use Rattle.rtp_media_stream_table.specs.Arrivals.{stream_for, takes}
 use Rattle.rtp_media_stream_table.specs.declared.open_stream.OpenStream.{OpenStream}
-use Rattle.rtp_media_stream_table.specs.declared.open_stream.OpenStream.TheVariants.{Sender, Receiver}
+use Rattle.rtp_media_stream_table.specs.declared.open_stream.OpenStream.TheVariants.{Closed, Sender, Receiver}
 use Rattle.rtp_media_stream_table.specs.Streams.{receives_as}
 
 eqb-is : (a b : ℕ) → (a == b) ≡ true → a ≡ b
@@ -83,6 +83,7 @@ not-own r ssrc types s p among none = by (is_own r s p) refl where
 pub not-taken : (x : OpenStream) (ssrc : ℕ) (types : PayloadTypes) (s p : ℕ) → is_key_of ssrc types s p ≡ true
     → receives_as ssrc types x ≡ false → takes s p x ≡ false
 not-taken (Sender t) ssrc types s p among none = refl
+not-taken Closed ssrc types s p among none = refl
 not-taken (Receiver r) ssrc types s p among none = not-own r ssrc types s p among none
 
 -- behind streams that don't, it is the first that does

@@ -8,17 +8,19 @@ use Rattle.rtp_media_streams.specs.Polls.{Answers, NoMore, poll_step}
 use Rattle.rtp_media_streams.proofs.Polling.{polled-some}
 use Rattle.rtp_media_stream_table.specs.Streams.{no_receiver, nth_stream}
 use Rattle.rtp_media_stream_table.specs.declared.open_stream.OpenStream.{OpenStream}
-use Rattle.rtp_media_stream_table.specs.declared.open_stream.OpenStream.TheVariants.{Sender, Receiver}
+use Rattle.rtp_media_stream_table.specs.declared.open_stream.OpenStream.TheVariants.{Closed, Sender, Receiver}
 use Rattle.rtp_media_stream_table.specs.Polled.{AnswersAll, AnswersSome, ArePolledSome, answers_at}
 
 pub out-some : (before : OpenStream) (after : OpenStream) (answers : Answers) → AnswersAll before answers after
     → AnswersSome before after
 out-some (Sender s) after answers out = out.1
+out-some Closed after answers out = out.1
 out-some (Receiver r) after answers out = (polled-some poll_step out.0, out.1)
 
 untouched : (x : OpenStream) → AnswersSome x x
 untouched (Sender s) = refl
 untouched (Receiver r) = (NoMore, refl)
+untouched Closed = refl
 
 eqb-is : (a b : ℕ) → (a == b) ≡ true → a ≡ b
 eqb-is a b h = grind (arith, nat_tests)

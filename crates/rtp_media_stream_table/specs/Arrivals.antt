@@ -1,21 +1,21 @@
 use Rattle.std.specs.Prelude.{ℕ, Bool, false, List, Option, Some, None, position}
 use Rattle.rtp_wire.specs.Header.{header_in}
 use Rattle.rtp_wire.specs.Maps.{empty_map}
-use Rattle.rtp_wire.specs.declared.ExtensionValues.{ExtensionValues}
+use Rattle.rtp_wire.specs.declared.values.ExtensionValues.{ExtensionValues}
 use Rattle.rtp_wire.specs.declared.header.RtpHeader.{RtpHeader}
 use Rattle.rtp_wire.specs.Repairs.{Wrapped}
 use Rattle.rtp_media_streams.specs.Receiving.{is_own, brought, taken_number, arrived, values_read}
 use Rattle.rtp_media_streams.specs.Receiving.{with_stream}
 use Rattle.rtp_media_stream_table.specs.Streams.{nth_receiver, set_receiver}
 use Rattle.rtp_media_stream_table.specs.declared.open_stream.OpenStream.{OpenStream}
-use Rattle.rtp_media_stream_table.specs.declared.open_stream.OpenStream.TheVariants.{Sender, Receiver}
+use Rattle.rtp_media_stream_table.specs.declared.open_stream.OpenStream.TheVariants.{Closed, Sender, Receiver}
 use Rattle.rtp_media_stream_table.specs.declared.received.Received.{Received}
 use Rattle.rtp_media_stream_table.specs.declared.received.Received.TheVariants.{Unreadable, Foreign, Damaged, Refused}
 use Rattle.rtp_media_stream_table.specs.declared.received.Received.TheVariants.{Taken}
 
--- What a datagram is to an end: no RTP packet, of no receiving stream, one of a stream's own that brings
--- no payload, or one of its own with the 16 bits of its number, its timestamp, its marker, the values of
--- its header extensions under the stream's map, and the payload that it brings.
+-- What a datagram is to an end: not RTP; of no receiving stream; a stream's own, but without a payload; or a stream's
+-- own, with its 16-bit sequence number, timestamp, marker bit, header extension values (by the stream's map) and
+-- payload.
 pub data Arrival : Type 0 where
   NoHeader : Arrival
   NoStream : Arrival
@@ -37,6 +37,7 @@ arrival_for streams (Some stream) header datagram =
 abbrev pub takes : ℕ → ℕ → OpenStream → Bool
 takes ssrc pt (Sender s) = false
 takes ssrc pt (Receiver r) = is_own r ssrc pt
+takes ssrc pt Closed = false
 
 -- The number of the receiving stream of an SSRC and a payload type.
 abbrev pub stream_for : List OpenStream → ℕ → ℕ → Option ℕ
@@ -63,7 +64,7 @@ verdict_in streams NoPayload = Damaged
 verdict_in streams (Own stream low time marker values payload) =
     verdict_on stream (taken_number (nth_receiver streams stream).stream low)
 
--- The streams after `receive`: one step of the stream whose own it is, and else as they were.
+-- The streams after `receive`: the stream that owns the datagram takes one step; otherwise nothing changes.
 abbrev pub streams_after : List OpenStream → Arrival → List OpenStream
 streams_after streams NoHeader = streams
 streams_after streams NoStream = streams

@@ -5,18 +5,20 @@ use Rattle.rtp_media_streams.specs.Rows.{format_of}
 use Rattle.rtp_media_streams.specs.Receiving.{Receiving, with_stream}
 use Rattle.rtp_media_stream_table.specs.Streams.{nth_stream, receiving_of}
 use Rattle.rtp_media_stream_table.specs.declared.open_stream.OpenStream.{OpenStream}
-use Rattle.rtp_media_stream_table.specs.declared.open_stream.OpenStream.TheVariants.{Sender, Receiver}
+use Rattle.rtp_media_stream_table.specs.declared.open_stream.OpenStream.TheVariants.{Closed, Sender, Receiver}
 
--- A stream that sends answers nothing and stays; one that receives was polled until None or lack of memory.
+-- A receiving stream is polled until None or lack of memory; any other answers nothing and doesn't change.
 abbrev pub AnswersAll : OpenStream → Answers → OpenStream → Type 0
 AnswersAll (Sender s) answers after = (answers ≡ []) × (after ≡ Sender s)
 AnswersAll (Receiver r) answers after =
     IsPolled poll_step r answers (receiving_of after) × (after ≡ Receiver (receiving_of after))
+AnswersAll Closed answers after = (answers ≡ []) × (after ≡ Closed)
 
--- A stream that sends stays; one that receives was polled some times, or none.
+-- A receiving stream is polled any number of times; any other doesn't change.
 abbrev pub AnswersSome : OpenStream → OpenStream → Type 0
 AnswersSome (Sender s) after = after ≡ Sender s
 AnswersSome (Receiver r) after = IsPolledSome poll_step r (receiving_of after) × (after ≡ Receiver (receiving_of after))
+AnswersSome Closed after = after ≡ Closed
 
 -- Each receiving stream was polled some times, or none.
 pub record ArePolledSome (before after : List OpenStream) : Type 0 where

@@ -1,5 +1,5 @@
 -- Which stream has an SSRC and a payload type.
-use Rattle.std.specs.Prelude.{◌≡◌, ◌⊎◌, ℕ, Bool, ◌==◌, ◌&&◌, Option, Some}
+use Rattle.std.specs.Prelude.{◌≡◌, ◌⊎◌, ℕ, Bool, ◌==◌, ◌&&◌, Option, Some, None}
 use Rattle.std.specs.BTreeMap.{get}
 use Rattle.std.specs.Ordering.{nat_cmp, ordering_then}
 use Rattle.std.specs.declared.cmp.Ordering.{Ordering}
@@ -14,10 +14,15 @@ key_cmp a b = ordering_then (nat_cmp a.ssrc b.ssrc) (nat_cmp a.pt b.pt)
 abbrev pub number_at : StreamIndex → ℕ → ℕ → Option ℕ
 number_at index ssrc pt = get key_cmp index.numbers (record { ssrc = ssrc; pt = pt })
 
--- Under each key stands what stood there before, or this number.
+-- Each key has its old value, or this one.
 abbrev pub KeepsOrSets : ℕ → StreamIndex → StreamIndex → Type 0
 KeepsOrSets number old new = (ssrc pt : ℕ) → (number_at new ssrc pt ≡ number_at old ssrc pt)
     ⊎ (number_at new ssrc pt ≡ Some number)
+
+-- Each key has its old value, or none.
+abbrev pub KeepsOrRemoves : StreamIndex → StreamIndex → Type 0
+KeepsOrRemoves old new = (ssrc pt : ℕ) → (number_at new ssrc pt ≡ number_at old ssrc pt)
+    ⊎ (number_at new ssrc pt ≡ None)
 
 -- Whether these are this SSRC and this payload type.
 abbrev pub is_key : ℕ → ℕ → ℕ → ℕ → Bool

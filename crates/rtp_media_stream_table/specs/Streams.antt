@@ -1,7 +1,7 @@
-use Rattle.std.specs.Prelude.{ℕ, Bool, true, false, not, nat_lt, ◌&&◌, List, length}
+use Rattle.std.specs.Prelude.{ℕ, Bool, true, false, nat_lt, ◌&&◌, List, length}
 use Rattle.std.specs.Prelude.{◌≡◌, None, slice_set, slice_index_or}
 use Rattle.rtp_wire.specs.Maps.{empty_map}
-use Rattle.payload_core_base.specs.declared.codec.Codec.TheVariants.{Unknown}
+use Rattle.media_types.specs.declared.codec.Codec.TheVariants.{Unknown}
 use Rattle.payload_core_buffer.specs.Buffered.{holding_of}
 use Rattle.rtp_media_streams.specs.Sending as sending
 use Rattle.rtp_media_streams.specs.Sending.{Sending, opened_sender}
@@ -10,16 +10,20 @@ use Rattle.rtp_media_streams.specs.Receiving.{Receiving, opened_receiver}
 use Rattle.rtp_media_streams.specs.declared.row_format.RowFormat.{RowFormat}
 use Rattle.rtp_media_streams.specs.declared.types.PayloadTypes.{PayloadTypes}
 use Rattle.rtp_media_stream_table.specs.declared.open_stream.OpenStream.{OpenStream}
-use Rattle.rtp_media_stream_table.specs.declared.open_stream.OpenStream.TheVariants.{Sender, Receiver}
+use Rattle.rtp_media_stream_table.specs.declared.open_stream.OpenStream.TheVariants.{Closed, Sender, Receiver}
 
--- Streams with this one in place of the n-th.
+-- The streams with the n-th replaced.
 abbrev pub set_sender : List OpenStream → ℕ → Sending → List OpenStream
 set_sender streams n s = slice_set streams n (Sender s)
 
 abbrev pub set_receiver : List OpenStream → ℕ → Receiving → List OpenStream
 set_receiver streams n r = slice_set streams n (Receiver r)
 
--- Those of no row.
+-- The streams with the n-th closed: its number stays, and no other stream gets it.
+abbrev pub set_closed : List OpenStream → ℕ → List OpenStream
+set_closed streams n = slice_set streams n Closed
+
+-- The payload types used if there is no row.
 abbrev pub no_types : PayloadTypes
 no_types = record { pt = 0; red = None; repair = None }
 
@@ -34,18 +38,26 @@ no_sender = opened_sender 0 no_types empty_map no_row_format None false 0 1 0
 abbrev pub no_receiver : Receiving
 no_receiver = opened_receiver 0 no_types empty_map no_row_format (holding_of 0 0)
 
--- A stream as one that sends, and as one that receives.
+-- A stream as a sending one, or as a receiving one; a dummy if it is of another kind.
 abbrev pub sending_of : OpenStream → Sending
 sending_of (Sender s) = s
 sending_of (Receiver r) = no_sender
+sending_of Closed = no_sender
 
 abbrev pub receiving_of : OpenStream → Receiving
 receiving_of (Sender s) = no_receiver
 receiving_of (Receiver r) = r
+receiving_of Closed = no_receiver
 
 abbrev pub is_sending : OpenStream → Bool
 is_sending (Sender s) = true
 is_sending (Receiver r) = false
+is_sending Closed = false
+
+abbrev pub is_receiving : OpenStream → Bool
+is_receiving (Sender s) = false
+is_receiving (Receiver r) = true
+is_receiving Closed = false
 
 -- The n-th stream.
 abbrev pub nth_stream : List OpenStream → ℕ → OpenStream
@@ -57,7 +69,7 @@ nth_sender streams n = sending_of (nth_stream streams n)
 abbrev pub nth_receiver : List OpenStream → ℕ → Receiving
 nth_receiver streams n = receiving_of (nth_stream streams n)
 
--- The n-th did this, and the others stay.
+-- The n-th stream did this; the others don't change.
 abbrev pub AtNth : List OpenStream → ℕ → (Receiving → Receiving → Type 0) → List OpenStream → Type 0
 AtNth streams n Did after = Did (nth_receiver streams n) (nth_receiver after n)
     × (after ≡ set_receiver streams n (nth_receiver after n))
@@ -67,13 +79,15 @@ abbrev pub is_nth_sender : List OpenStream → ℕ → Bool
 is_nth_sender streams n = nat_lt n (length streams) && is_sending (nth_stream streams n)
 
 abbrev pub is_nth_receiver : List OpenStream → ℕ → Bool
-is_nth_receiver streams n = nat_lt n (length streams) && not (is_sending (nth_stream streams n))
+is_nth_receiver streams n = nat_lt n (length streams) && is_receiving (nth_stream streams n)
 
 -- Whether a stream could send, or take, the datagrams of one of this SSRC and these payload types.
 abbrev pub sends_as : ℕ → PayloadTypes → OpenStream → Bool
 sends_as ssrc types (Sender s) = sending.conflicts_with s ssrc types
 sends_as ssrc types (Receiver r) = false
+sends_as ssrc types Closed = false
 
 abbrev pub receives_as : ℕ → PayloadTypes → OpenStream → Bool
 receives_as ssrc types (Sender s) = false
 receives_as ssrc types (Receiver r) = receiving.conflicts_with r ssrc types
+receives_as ssrc types Closed = false

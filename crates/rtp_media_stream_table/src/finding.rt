@@ -1,9 +1,9 @@
 //! Streams by SSRC and payload type.
 
-ghost use Rattle.std.specs.Prelude.{◌≡◌, ◌<◌, ◌&&◌, ◌||◌, length, false, nat_lt, IfSome};
+ghost use Rattle.std.specs.Prelude.{◌≡◌, ◌<◌, ◌&&◌, ◌||◌, length, false, nat_lt, true, IfSome};
 ghost use Rattle.std.specs.List.{list_any};
 ghost use Rattle.rtp_media_stream_table.specs.Arrivals.{stream_for, takes};
-ghost use Rattle.rtp_media_stream_table.specs.Streams.{is_sending, nth_stream, receives_as, sends_as};
+ghost use Rattle.rtp_media_stream_table.specs.Streams.{is_receiving, nth_stream, receives_as, sends_as};
 ghost use Rattle.rtp_media_stream_table.specs.Indexed.{IsIndexed, has_red, has_repair, sends};
 
 use crate::open_stream::OpenStream;
@@ -39,7 +39,7 @@ pub fn stream_for(
     requires { IsIndexed takes receivers.now streams.now }
     ensures stream { result ≡ stream_for streams.now ssrc pt }
     ensures within { IfSome result (λ n. n < length streams.now) }
-    ensures receives { IfSome result (λ n. is_sending (nth_stream streams.now n) ≡ false) }
+    ensures receives { IfSome result (λ n. is_receiving (nth_stream streams.now n) ≡ true) }
 {
     match receivers.number(ssrc, pt) {
         Some(number) if takes_at(streams, number, ssrc, pt) => Some(number),

@@ -1,8 +1,8 @@
 //! The streams of an end.
 
-ghost use Rattle.std.specs.Prelude.{◌≡◌, not};
+ghost use Rattle.std.specs.Prelude.{◌≡◌};
 ghost use Rattle.rtp_media_stream_table.specs.Arrivals.{takes};
-ghost use Rattle.rtp_media_stream_table.specs.Streams.{is_sending};
+ghost use Rattle.rtp_media_stream_table.specs.Streams.{is_receiving, is_sending};
 ghost use Rattle.rtp_media_stream_table.specs.Indexed.{sends};
 
 use rtp_media_streams::{ReceivingStream, SendingStream};
@@ -15,6 +15,8 @@ pub enum OpenStream {
     Sender(SendingStream),
     /// One that receives.
     Receiver(ReceivingStream),
+    /// One that was closed.
+    Closed,
 }
 
 impl OpenStream {
@@ -24,17 +26,17 @@ impl OpenStream {
     {
         match self {
             OpenStream::Sender(_) => true,
-            OpenStream::Receiver(_) => false,
+            OpenStream::Receiver(_) | OpenStream::Closed => false,
         }
     }
 
     /// Whether it receives.
     pub fn is_receiver(&self) -> bool
-        ensures { result ≡ not (is_sending self.now) }
+        ensures { result ≡ is_receiving self.now }
     {
         match self {
-            OpenStream::Sender(_) => false,
             OpenStream::Receiver(_) => true,
+            OpenStream::Sender(_) | OpenStream::Closed => false,
         }
     }
 
@@ -43,8 +45,8 @@ impl OpenStream {
         ensures { result ≡ sends ssrc pt self.now }
     {
         match self {
-            OpenStream::Sender(sender) => { sender.is_key(ssrc, pt) }
-            OpenStream::Receiver(_) => false,
+            OpenStream::Sender(sender) => sender.is_key(ssrc, pt),
+            OpenStream::Receiver(_) | OpenStream::Closed => false,
         }
     }
 
@@ -53,8 +55,8 @@ impl OpenStream {
         ensures { result ≡ takes ssrc pt self.now }
     {
         match self {
-            OpenStream::Sender(_) => false,
             OpenStream::Receiver(receiver) => receiver.is_own(ssrc, pt),
+            OpenStream::Sender(_) | OpenStream::Closed => false,
         }
     }
 }

@@ -2,7 +2,7 @@
 
 ghost use Rattle.std.specs.Prelude.{◌≡◌, ℕ, None, Some, false, true, OnOk};
 ghost use Rattle.rtp_media_streams.specs.Types.{is_key_of, is_plain_key};
-ghost use Rattle.rtp_media_stream_table.specs.StreamIndex.{KeepsOrSets, is_key, number_at};
+ghost use Rattle.rtp_media_stream_table.specs.StreamIndex.{KeepsOrRemoves, KeepsOrSets, is_key, number_at};
 
 use rtp_media_streams::PayloadTypes;
 use rtp_wire::{Pt, Ssrc};
@@ -101,5 +101,45 @@ impl StreamIndex {
             self.set(key.ssrc, key.pt, number)?;
         }
         Ok(())
+    }
+
+    /// Removes a number.
+    fn remove(&mut self, ssrc: Ssrc, pt: Pt)
+        ensures removed { number_at self.new ssrc pt ≡ None }
+        ensures others { (s p : ℕ) → is_key ssrc pt s p ≡ false
+            → number_at self.new s p ≡ number_at self.old s p }
+        ensures kept { KeepsOrRemoves self.old self.new }
+    {
+        let key = StreamKey {
+            ssrc: ssrc.get(),
+            pt: pt.get(),
+        };
+        self.numbers.remove(&key);
+    }
+
+    /// Removes the number of a stream under its SSRC and each of its two types.
+    fn remove_plain(&mut self, ssrc: Ssrc, types: &PayloadTypes)
+        ensures removed { (s p : ℕ) → is_plain_key ssrc types.now s p ≡ true → number_at self.new s p ≡ None }
+        ensures others { (s p : ℕ) → is_plain_key ssrc types.now s p ≡ false
+            → number_at self.new s p ≡ number_at self.old s p }
+        ensures kept { KeepsOrRemoves self.old self.new }
+    {
+        self.remove(ssrc, types.pt);
+        if let Some(red) = types.red {
+            self.remove(ssrc, red);
+        }
+    }
+
+    /// Removes the number of a stream under each SSRC and type of its datagrams.
+    pub fn remove_types(&mut self, ssrc: Ssrc, types: &PayloadTypes)
+        ensures removed { (s p : ℕ) → is_key_of ssrc types.now s p ≡ true → number_at self.new s p ≡ None }
+        ensures others { (s p : ℕ) → is_key_of ssrc types.now s p ≡ false
+            → number_at self.new s p ≡ number_at self.old s p }
+        ensures kept { KeepsOrRemoves self.old self.new }
+    {
+        self.remove_plain(ssrc, types);
+        if let Some(key) = types.repair {
+            self.remove(key.ssrc, key.pt);
+        }
     }
 }

@@ -1,8 +1,8 @@
 -- Packetizers and depacketizers that were configured.
 use Rattle.std.proofs.Common.{◌≡◌, refl, Bool, false}
 use Rattle.payload_core_base.specs.Packing.{Sender}
-use Rattle.payload_core_base.specs.declared.codec.Codec.{Codec}
-use Rattle.payload_core_base.specs.declared.codec.Codec.TheVariants as codecs
+use Rattle.media_types.specs.declared.codec.Codec.{Codec}
+use Rattle.media_types.specs.declared.codec.Codec.TheVariants as codecs
 use Rattle.h26x_payload.specs.Codings.{Forms, Settings, coding_in, coding_of}
 use Rattle.h26x_payload.specs.declared.codec_packetizer.CodecPacketizer.TheVariants.{G722, Opus}
 use Rattle.h26x_payload.specs.declared.codec_packetizer.CodecPacketizer.TheVariants.{AmrWb, Vp8, Vp9, Av1}
@@ -12,40 +12,10 @@ use Rattle.h26x_payload.specs.declared.codec_packetizer.CodecPacketizer.TheVaria
 pub same-reading : (f : Forms) (s : Settings) (has_id : Bool) (codec : Codec) → (coding_in f s has_id codec).format
     ≡ (coding_of s false codec).format
 same-reading f s has_id codecs.Opus = refl
-same-reading f s has_id codecs.PCMU = refl
-same-reading f s has_id codecs.PCMA = refl
-same-reading f s has_id codecs.G722 = refl
-same-reading f s has_id codecs.CN = refl
-same-reading f s has_id codecs.AmrWb = refl
-same-reading f s has_id codecs.H264 = refl
-same-reading f s has_id codecs.H265 = refl
-same-reading f s has_id codecs.H266 = refl
-same-reading f s has_id codecs.Vp8 = refl
-same-reading f s has_id codecs.Vp9 = refl
-same-reading f s has_id codecs.Av1 = refl
-same-reading f s has_id codecs.Tele = refl
-same-reading f s has_id codecs.Rtx = refl
-same-reading f s has_id codecs.Red = refl
-same-reading f s has_id codecs.Null = refl
-same-reading f s has_id codecs.Unknown = refl
+same-reading f s has_id _ = refl
 
 -- forms do not change what a packetizer may keep between samples
 pub reached-in-forms : (f : Forms) (s : Settings) (has_id : Bool) (codec : Codec) (kept : Sender)
     → (coding_of s has_id codec).IsReached kept → (coding_in f s has_id codec).IsReached kept
 reached-in-forms f s has_id codecs.Opus kept reached = reached
-reached-in-forms f s has_id codecs.PCMU kept reached = reached
-reached-in-forms f s has_id codecs.PCMA kept reached = reached
-reached-in-forms f s has_id codecs.G722 kept reached = reached
-reached-in-forms f s has_id codecs.CN kept reached = reached
-reached-in-forms f s has_id codecs.AmrWb kept reached = reached
-reached-in-forms f s has_id codecs.H264 kept reached = reached
-reached-in-forms f s has_id codecs.H265 kept reached = reached
-reached-in-forms f s has_id codecs.H266 kept reached = reached
-reached-in-forms f s has_id codecs.Vp8 kept reached = reached
-reached-in-forms f s has_id codecs.Vp9 kept reached = reached
-reached-in-forms f s has_id codecs.Av1 kept reached = reached
-reached-in-forms f s has_id codecs.Tele kept reached = reached
-reached-in-forms f s has_id codecs.Rtx kept reached = reached
-reached-in-forms f s has_id codecs.Red kept reached = reached
-reached-in-forms f s has_id codecs.Null kept reached = reached
-reached-in-forms f s has_id codecs.Unknown kept reached = reached
+reached-in-forms f s has_id _ kept reached = reached

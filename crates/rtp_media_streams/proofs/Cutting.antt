@@ -11,7 +11,7 @@ use Rattle.payload_core_audio.specs.RedSinks.{TakesWrapped}
 use Rattle.payload_core_audio.specs.declared.sink.RedSink.{RedSink}
 use Rattle.rtp_wire.specs.Header.{spelled}
 use Rattle.rtp_wire.specs.Values.{Numbering}
-use Rattle.rtp_wire.specs.declared.ExtensionValues.{ExtensionValues}
+use Rattle.rtp_wire.specs.declared.values.ExtensionValues.{ExtensionValues}
 use Rattle.rtp_media_schedules.specs.SentSamples.{sent_or}
 use Rattle.rtp_media_streams.specs.Redundant.{kept_after, wrapped, wraps}
 use Rattle.rtp_media_streams.specs.Sending.{Sending, datagram_of, datagrams_from, on_wire, payload_refusal, stamped}

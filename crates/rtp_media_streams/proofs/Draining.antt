@@ -6,8 +6,10 @@ use Rattle.payload_core_base.specs.Format.{Format}
 use Rattle.payload_core_base.specs.declared.error.PacketError.{PacketError}
 use Rattle.payload_core_base.specs.declared.extra.CodecExtra.{CodecExtra}
 use Rattle.payload_core_buffer.specs.declared.held.RtpMeta.{RtpMeta}
-use Rattle.rtp_media_schedules.specs.Hearing.{Answer, EndsSilent, Event, IsInterrupted, Poll, Stream, answer_among}
-use Rattle.rtp_media_schedules.specs.Hearing.{answer_by, handed_out, heard, poll_answer, polled}
+use Rattle.payload_core_buffer.specs.Steps.{Answer, answer_among}
+use Rattle.rtp_media_schedules.specs.Hearing.{EndsSilent, Event, IsInterrupted, Poll, Stream}
+use Rattle.payload_core_buffer.specs.Steps.{answer_by}
+use Rattle.rtp_media_schedules.specs.Hearing.{handed_out, heard, poll_answer, polled}
 use Rattle.rtp_media_schedules.specs.SentSamples.{Timed, timed_unit}
 use Rattle.rtp_media_schedules.proofs.Cuts.{silent-stays}
 use Rattle.rtp_media_streams.specs.Polls.{Answers, AreAnswered, Faults, HandsOut, IsPolled, Silent, WantsMemory}

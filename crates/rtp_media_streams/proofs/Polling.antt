@@ -6,7 +6,8 @@ use Rattle.payload_core_buffer.specs.Buffered.{Holding}
 use Rattle.payload_core_buffer.specs.Pops.{PopState}
 use Rattle.payload_core_buffer.specs.Steps.{AnswersBy, PollStep, pop_step}
 use Rattle.rtp_media_schedules.specs.Drains.{holding_back}
-use Rattle.rtp_media_schedules.specs.Hearing.{Answer, MediaUnit, Stream, kept_of, with_kept}
+use Rattle.payload_core_buffer.specs.Steps.{Answer, MediaUnit}
+use Rattle.rtp_media_schedules.specs.Hearing.{Stream, kept_of, with_kept}
 use Rattle.rtp_media_schedules.proofs.PollSteps.{less-after, step-answer, step-next, step-stops}
 use Rattle.rtp_media_streams.specs.Polls.{Answers, Faults, HandsOut, IsPolled, IsPolledSome, NoMore, Once, Short}
 use Rattle.rtp_media_streams.specs.Polls.{Silent}

@@ -3,10 +3,10 @@ use Rattle.std.proofs.Common.{◌≡◌, ℕ, zero, suc, ◌+◌, ◌-◌, ◌<�
 use Rattle.std.proofs.Common.{true, false, List, [], ◌∷◌, ◌++◌, length, length-append}
 use Rattle.std.proofs.lemmas.Bool.Decides.{nat_tests}
 use Rattle.std.specs.Prelude.{Option, Some, None, if◌then◌else◌, nat_lt, nat_le, is_none, ◌||◌, slice_index_or}
-use Rattle.rtp_wire_values.specs.Time.{Time, checked_rebased}
+use Rattle.rtp_wire.specs.Time.{Time, checked_rebased}
 use Rattle.rtp_wire.specs.Carried.{AreValues}
 use Rattle.rtp_wire.specs.Header.{spelled, two_byte_length, header_in, image, payload_in, IsWritable}
-use Rattle.rtp_wire.specs.declared.ExtensionValues.{ExtensionValues}
+use Rattle.rtp_wire.specs.declared.values.ExtensionValues.{ExtensionValues}
 use Rattle.rtp_wire.proofs.HeaderLaws.{length-spelled_within, header_in-spelled, payload_in-spelled}
 use Rattle.payload_core_base.specs.Law.{AreWithin}
 use Rattle.payload_core_base.specs.Outgoing.{Outgoing, outgoing}

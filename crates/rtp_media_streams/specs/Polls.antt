@@ -4,7 +4,8 @@ use Rattle.std.specs.Prelude.{Result, Ok, Err}
 use Rattle.payload_core_base.specs.declared.error.PacketError.{PacketError}
 use Rattle.payload_core_buffer.specs.Steps.{AnswersBy, PollStep}
 use Rattle.rtp_media_schedules.specs.Drains.{holding_back}
-use Rattle.rtp_media_schedules.specs.Hearing.{Answer, IsInterrupted, MediaUnit, poll_answer, polled}
+use Rattle.payload_core_buffer.specs.Steps.{Answer, MediaUnit}
+use Rattle.rtp_media_schedules.specs.Hearing.{IsInterrupted, poll_answer, polled}
 use Rattle.rtp_media_schedules.specs.SentSamples.{Timed, timed}
 use Rattle.rtp_media_streams.specs.Receiving.{Receiving, polled_receiver, with_stream}
 use Rattle.rtp_media_streams.specs.Rows.{format_of}
@@ -15,13 +16,13 @@ use Rattle.rtp_media_streams.specs.declared.errors.PollFault.TheVariants.{Memory
 abbrev pub PollResult : Type 0
 PollResult = Result (Option MediaUnit) PollFault
 
--- An answer as a poll gives it where memory is found.
+-- An answer as a poll returns it if memory lasts.
 abbrev pub given : Answer → PollResult
 given (Ok unit) = Ok unit
 given (Err e) = Err (Payload e)
 
--- A poll of a receiving stream, by the words of what a stream hears; and a drain, a poll that holds no complete frame
--- back, for the end of a stream.
+-- A poll of a receiving stream, in terms of what a stream hears; and a drain, which is a poll with no hold-back, for
+-- the end of a stream.
 abbrev pub poll_step : Receiving → PollStep Receiving
 poll_step r = record {
   answer = poll_answer (format_of r.row) r.stream;
@@ -50,11 +51,11 @@ found (Ok unit) = Some (Ok unit)
 found (Err (Payload e)) = Some (Err e)
 found (Err Memory) = None
 
--- What polls of a stream answer that hand something out.
+-- Answers to a stream's polls that hand something out.
 abbrev pub Answers : Type 0
 Answers = List (Result MediaUnit PollFault)
 
--- Polls until None or lack of memory: what they answer one after the other, and what they leave.
+-- Polls until None or lack of memory: their answers in order, and the state they leave.
 pub data IsPolled {S : Type 0} (step : S → PollStep S) : S → Answers → S → Type 0 where
   Silent : {s t : S} (none : AnswersBy (step s) t (Some (Ok None))) → IsPolled step s [] t
   HandsOut : {s m t : S} {u : MediaUnit} {os : Answers} (some : AnswersBy (step s) m (Some (Ok (Some u))))
@@ -63,7 +64,7 @@ pub data IsPolled {S : Type 0} (step : S → PollStep S) : S → Answers → S �
       (rest : IsPolled step m os t) → IsPolled step s (Err (Payload e) ∷ os) t
   WantsMemory : {s t : S} (wants : AnswersBy (step s) t None) → IsPolled step s (Err Memory ∷ []) t
 
--- Polls, some or none; at the last one memory may have run out.
+-- Any number of polls; memory may have run out at the last one.
 pub data IsPolledSome {S : Type 0} (step : S → PollStep S) : S → S → Type 0 where
   NoMore : {s : S} → IsPolledSome step s s
   Once : {s m t : S} {a : Answer} (one : AnswersBy (step s) m (Some a)) (rest : IsPolledSome step m t)
@@ -75,7 +76,7 @@ abbrev pub timed_answer : Result MediaUnit PollFault → Result Timed PollFault
 timed_answer (Ok u) = Ok (timed u.time u.values u.bytes)
 timed_answer (Err e) = Err e
 
--- The answers are the first of these units, but not all, and then lack of memory.
+-- The answers are the first of these units, but not all, and then an out-of-memory fault.
 pub record IsCutShort (units : List Timed) (answers : Answers) : Type 0 where
   pub count : ℕ
   pub stopped : count < length units

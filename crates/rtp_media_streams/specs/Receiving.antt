@@ -2,9 +2,9 @@
 use Rattle.std.specs.Prelude.{ℕ, Bool, if◌then◌else◌, List, [], ◌∷◌, Option, Some, None, option_and_then, slice_range}
 use Rattle.rtp_wire.specs.Header.{header_in, payload_in}
 use Rattle.rtp_wire.specs.Padding.{unpadded}
-use Rattle.rtp_wire.specs.Replay.{Window, is_accepted}
+use Rattle.rtp_wire.specs.Replay.{Window, is_accepted, recorded_in}
 use Rattle.rtp_wire.specs.Values.{Numbering, absent}
-use Rattle.rtp_wire.specs.declared.ExtensionValues.{ExtensionValues}
+use Rattle.rtp_wire.specs.declared.values.ExtensionValues.{ExtensionValues}
 use Rattle.rtp_wire.specs.declared.header.RtpHeader.{RtpHeader}
 use Rattle.rtp_wire.specs.Repairs.{Wrapped, wrapped_in}
 use Rattle.payload_core_base.specs.Format.{Fragment}
@@ -17,8 +17,8 @@ use Rattle.rtp_media_streams.specs.declared.payload.Brought.{Brought}
 use Rattle.rtp_media_streams.specs.declared.row_format.RowFormat.{RowFormat}
 use Rattle.rtp_media_streams.specs.declared.types.PayloadTypes.{PayloadTypes}
 
--- A receiving stream: whose datagrams it takes, by SSRC and payload types (RFC 3550 5.1), the numbers of
--- their header extensions (RFC 8285 5), what its row says of their payloads, and what it keeps of them.
+-- A receiving stream: the SSRC and payload types of its datagrams (RFC 3550 5.1), its header extension numbers (RFC
+-- 8285 5), its row's payload format, and its state.
 pub record Receiving : Type 0 where
   pub ssrc : ℕ
   pub types : PayloadTypes
@@ -36,7 +36,7 @@ opened_receiver ssrc types map row holding = record {
   stream = fresh holding;
 }
 
--- The same stream with other things kept.
+-- The same stream with another state.
 abbrev pub with_stream : Receiving → Stream → Receiving
 with_stream r s = record { ssrc = r.ssrc; types = r.types; map = r.map; row = r.row; stream = s }
 
@@ -56,21 +56,21 @@ is_own r ssrc pt = is_key_of r.ssrc r.types ssrc pt
 abbrev pub conflicts_with : Receiving → ℕ → PayloadTypes → Bool
 conflicts_with r ssrc types = share_key r.ssrc r.types ssrc types
 
--- The payload of a datagram that is no repair: without padding (RFC 3550 5.1) and, under the RED type, without
+-- The payload of a datagram that isn't a retransmission: without padding (RFC 3550 5.1) and, with the RED type, without
 -- redundancy (RFC 2198).
 abbrev pub media_payload : PayloadTypes → RtpHeader → List ℕ → Option (List ℕ)
 media_payload types header datagram =
     option_and_then (unwrapped types header.payload_type) (unpadded header.has_padding (payload_in header datagram))
 
--- What such a datagram brings: its payload, where that has a byte, under its own number.
+-- What such a datagram brings: its payload, if not empty, under its own sequence number.
 abbrev pub plain_brought : RtpHeader → Option (List ℕ) → Option Wrapped
 plain_brought header None = None
 plain_brought header (Some []) = None
 plain_brought header (Some (byte ∷ bytes)) =
     Some (record { number = header.sequence_number; payload = byte ∷ bytes })
 
--- What a payload without padding carries to a stream of an SSRC and these types: under its own number what a plain
--- datagram has, and a repair what it wraps.
+-- What a payload without padding brings to a stream: a plain datagram its payload under its own sequence number, a
+-- retransmission the original payload under the original number.
 abbrev pub carried : ℕ → PayloadTypes → RtpHeader → List ℕ → Option Wrapped
 carried ssrc types header payload =
     if is_plain_key ssrc types header.ssrc header.payload_type
@@ -80,8 +80,8 @@ carried ssrc types header payload =
 abbrev pub wrapped_at : List ℕ → Brought → Wrapped
 wrapped_at datagram b = record { number = b.number; payload = slice_range datagram b.start b.end }
 
--- What a datagram of its own brings a stream of an SSRC and these types: the low 16 bits of a number, and a payload
--- with a byte at least. A repair brings what it wraps.
+-- What one of its datagrams brings to a stream: 16 bits of a sequence number, and a nonempty payload. A retransmission
+-- brings what it wraps.
 abbrev pub brought : ℕ → PayloadTypes → RtpHeader → List ℕ → Option Wrapped
 brought ssrc types header datagram =
     if is_plain_key ssrc types header.ssrc header.payload_type
@@ -95,6 +95,12 @@ taken_number s low = if is_accepted s.window (number_at s low) then Some (number
 -- The stream after it.
 abbrev pub arrived : Stream → ℕ → ℕ → Bool → ExtensionValues → List ℕ → Stream
 arrived s low time marker values payload = taken_by s (number_at s low) (content_of time marker values payload)
+
+-- The stream after it, where its number alone is recorded and nothing of it is held.
+abbrev pub number_taken : Stream → ℕ → Stream
+number_taken s low =
+    if is_accepted s.window (number_at s low)
+    then record s { window = Some (recorded_in s.window (number_at s low)) } else s
 
 -- The stream after a poll.
 abbrev pub polled_receiver : Receiving → Receiving

@@ -1,4 +1,4 @@
--- Payloads as a stream with redundancy sends them, and as they are taken out again (RFC 2198).
+-- RED payloads as a stream sends them and as they are unwrapped (RFC 2198).
 use Rattle.std.specs.Prelude.{ℕ, ◌+◌, ◌-◌, ◌%◌, ◌==◌, nat_le, if◌then◌else◌, List, [], ◌∷◌, length, map, reverse}
 use Rattle.std.specs.Prelude.{Option, Some, None, option_and_then}
 use Rattle.payload_core_base.specs.Outgoing.{Outgoing, outgoing}
@@ -9,23 +9,23 @@ use Rattle.payload_core_audio.specs.RedSending.{masked}
 use Rattle.payload_core_audio.specs.RedWrapping.{levels}
 use Rattle.rtp_media_streams.specs.declared.types.PayloadTypes.{PayloadTypes}
 
--- The first of these blocks, as many as so many bytes have room for.
+-- The first blocks that together fit in `room` bytes.
 abbrev pub fitting : ℕ → List Block → List Block
 fitting room [] = []
 fitting room (b ∷ bs) = if nat_le (4 + length b.payload) room then b ∷ fitting (room - (4 + length b.payload)) bs
     else []
 
--- A payload of a type behind the older ones that the budget has room for, the deepest first.
+-- A payload with the older ones that the budget allows, oldest first.
 abbrev pub behind_older : ℕ → ℕ → Redundancy → Outgoing → List ℕ
 behind_older pt budget r o =
     spelled (map masked (reverse (fitting (budget - (length o.payload + 1)) (levels r.history r.distances o.time))))
     (pt % 128) o.payload
 
--- What is sent for a payload: it behind older ones, or alone where it and one byte pass the budget.
+-- What is sent for a payload: it with older ones, or alone if even one extra byte would exceed the budget.
 abbrev pub wrapped : ℕ → ℕ → Redundancy → Outgoing → List ℕ
 wrapped pt budget r o = if nat_le (length o.payload + 1) budget then behind_older pt budget r o else o.payload
 
--- Payloads, each behind older ones.
+-- The payloads, each with older ones.
 abbrev pub wraps : ℕ → ℕ → Redundancy → List Outgoing → List Outgoing
 wraps pt budget r [] = []
 wraps pt budget r (o ∷ os) =
@@ -42,8 +42,7 @@ primary_of pt [] = None
 primary_of pt (item ∷ items) = if item.primary then (if item.pt == pt then Some item.payload else None)
     else primary_of pt items
 
--- What a payload under one of a stream's types brings it: itself, or under the RED type the primary
--- payload, where it has the other type.
+-- What a payload brings to a stream: itself; or, with the RED type, its primary payload, if that has the row's type.
 abbrev pub unwrapped : PayloadTypes → ℕ → List ℕ → Option (List ℕ)
 unwrapped types pt payload = if types.pt == pt then Some payload
     else option_and_then (primary_of types.pt) (read_red payload)

@@ -11,7 +11,7 @@ abbrev pub datagram_with : Stamp → ℕ → Outgoing → List ℕ
 datagram_with stamp number o = spelled stamp.exts
     (stamped stamp.ssrc stamp.pt stamp.exts number o.marker o.time o.values) ++ o.payload
 
--- A payload more is a datagram more, under the next number.
+-- One more payload is one more datagram, with the next number.
 pub record TakesOne (old : DatagramSink) (o : Outgoing) (new : DatagramSink) : Type 0 where
   pub stamp : new.stamp.now ≡ old.stamp.now
   pub first : new.first ≡ old.first

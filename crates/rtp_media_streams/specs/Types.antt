@@ -1,4 +1,4 @@
--- The payload types of a stream, and whose datagrams are its own (RFC 3550 5.1).
+-- The payload types of a stream, and which datagrams are its own (RFC 3550 5.1).
 use Rattle.std.specs.Prelude.{ℕ, Bool, false, ◌||◌, ◌&&◌, ◌==◌, Option, Some, None}
 use Rattle.rtp_media_streams.specs.declared.types.PayloadTypes.{PayloadTypes}
 use Rattle.rtp_media_streams.specs.declared.types.RepairKey.{RepairKey}
@@ -16,15 +16,15 @@ abbrev pub is_repair_key : Option RepairKey → ℕ → ℕ → Bool
 is_repair_key None ssrc pt = false
 is_repair_key (Some key) ssrc pt = (key.ssrc == ssrc) && (key.pt == pt)
 
--- Whether datagrams of an SSRC and a type are those of a stream of this SSRC and these types, no repairs.
+-- Whether an SSRC and a payload type are those of this stream's datagrams, retransmissions excluded.
 abbrev pub is_plain_key : ℕ → PayloadTypes → ℕ → ℕ → Bool
 is_plain_key own types ssrc pt = (own == ssrc) && has_type types pt
 
--- The same, repairs too.
+-- The same, retransmissions included.
 abbrev pub is_key_of : ℕ → PayloadTypes → ℕ → ℕ → Bool
 is_key_of own types ssrc pt = is_plain_key own types ssrc pt || is_repair_key types.repair ssrc pt
 
--- Whether a stream has this RED type or this key of repairs of another one among its own.
+-- Whether one stream's RED type, or its RTX SSRC and type, is among another stream's own.
 abbrev pub has_red_key : ℕ → PayloadTypes → ℕ → Option ℕ → Bool
 has_red_key own types ssrc None = false
 has_red_key own types ssrc (Some red) = is_key_of own types ssrc red

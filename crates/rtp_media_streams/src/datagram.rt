@@ -12,7 +12,7 @@ pub struct Datagram {
     bytes: Vec<u8>,
 }
 
-/// Written by hand so that crates that drop this type need no proof about its fields.
+/// Written by hand, so that crates that drop this type need no proof about its fields.
 impl Drop for Datagram {
     fn drop(self) {
         let Datagram { bytes: _bytes } = self;

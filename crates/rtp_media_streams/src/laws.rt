@@ -5,8 +5,8 @@ ghost use Rattle.payload_core_base.specs.Law.{AreWithin};
 ghost use Rattle.payload_core_base.specs.Outgoing.{Outgoing};
 ghost use Rattle.rtp_wire.specs.Carried.{AreValues};
 ghost use Rattle.rtp_wire.specs.Header.{header_in, image, payload_in};
-ghost use Rattle.rtp_wire_values.specs.Time.{Time};
-ghost use Rattle.rtp_wire.specs.declared.ExtensionValues.{ExtensionValues};
+ghost use Rattle.rtp_wire.specs.Time.{Time};
+ghost use Rattle.rtp_wire.specs.declared.values.ExtensionValues.{ExtensionValues};
 ghost use Rattle.payload_core_audio.specs.RedHistory.{AreDistances, Redundancy};
 ghost use Rattle.payload_core_audio.specs.RedWrapping.{IsWrap};
 ghost use Rattle.rtp_media_streams.specs.Redundant.{behind_older, unwrapped, wrapped};
@@ -16,11 +16,11 @@ ghost use Rattle.rtp_media_streams.specs.Sending.{datagrams_of, datagrams_from, 
 ghost use Rattle.rtp_media_streams.specs.Sending.{sent, sent_datagrams, sent_payloads, refusal_of_sample};
 ghost use Rattle.rtp_media_streams.specs.Sending.{wire_payloads};
 
-/// Samples that are pushed one after the other give the payloads of all of them under consecutive
-/// numbers, with redundancy each behind older ones, of the samples before too. Where no packet of an accepted
-/// sample passes its limit, as the codec law says of each well-formed one, no payload passes `mtu` and no
-/// datagram the limit. A datagram reads under the stream's map as its header's wire image, with the sample's
-/// values that the map has a number for, and behind it stands the payload.
+/// Samples pushed in order give all their payloads with consecutive numbers; with redundancy each
+/// comes with older ones, also from earlier samples. If no packet of an accepted sample exceeds its
+/// limit (the codec law says so for well-formed ones), no payload exceeds `mtu` and no datagram
+/// exceeds the limit. A datagram reads, with the stream's map, as its header's wire image, with
+/// those of the sample's values that the map has an id for, followed by the payload.
 pub fn datagrams_laws()
     ensures consecutive { (s : Sending) (samples : List Sample) →
         datagrams_of s samples ≡ datagrams_from s s.next (wire_payloads s (payloads_of_samples s samples)) }
@@ -39,9 +39,9 @@ pub fn datagrams_laws()
         payload_in (image s.map (header_of s number o.marker o.time o.values)) (datagram_of s number o) ≡ o.payload }
 {}
 
-/// What is sent for a payload is the payload behind the longest prefix of the older ones that the budget has
-/// room for, as a sender of redundancy wraps it; and where it is one byte shorter than the budget, or more, a
-/// stream of its type takes just it out again (RFC 2198).
+/// What is sent for a payload is the payload after the longest prefix of the older ones that the
+/// budget allows, as a RED sender wraps it; and if it is at least one byte shorter than the budget,
+/// a stream with its payload types unwraps exactly it (RFC 2198).
 pub fn redundancy_laws()
     ensures wraps { (pt budget : ℕ) (r : Redundancy) (o : Outgoing) → AreDistances r.distances →
         IsWrap r pt o.payload o.time budget (wrapped pt budget r o) }

@@ -14,11 +14,9 @@ mod types;
 
 pub use codecs::{depacketizer_for, packetizer_for};
 pub use datagram::Datagram;
-pub use errors::{PollFault, RepairError, SampleError};
-pub use h26x_payload::{CodecDepacketizer, CodecPacketizer, NotBoxed};
+pub use errors::{ForwardError, PollFault, RepairError, SampleError};
 pub use laws::{datagrams_laws, redundancy_laws};
 pub use payload::{Brought, brought_by};
-pub use payload_core_buffer::{MAX_HELD, MIN_HELD, Unit, may_hold};
 pub use receiver::{Arrival, ReceivingStream};
 pub use row_format::{RowFormat, rtp_rate_of};
 pub use sender::SendingStream;

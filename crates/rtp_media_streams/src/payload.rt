@@ -51,9 +51,9 @@ fn unwrapped<'a>(types: &PayloadTypes, pt: Pt, payload: &'a [u8]) -> Option<&'a 
     }
 }
 
-/// What a payload without padding carries: the low 16 bits of a number, and how many bytes, the last of these, the
-/// payload under that number has. A plain datagram carries its payload under its own number, and a repair what it
-/// wraps.
+/// What a payload without padding carries: 16 bits of a sequence number, and the length of the
+/// payload at its end that belongs to it. A plain datagram carries its payload under its own
+/// number, a retransmission the original payload under the original number.
 fn carried(
     ssrc: Ssrc,
     types: &PayloadTypes,

@@ -12,8 +12,11 @@ ghost use Rattle.rtp_media_schedules.specs.Hearing.{content_of, packet_of};
 ghost use Rattle.payload_core_buffer.specs.Steps.{AnswersBy, as_answer};
 ghost use Rattle.rtp_media_streams.specs.Polls.{IsPolled, IsPolledSome, drain_step, found, poll_step};
 ghost use Rattle.rtp_media_streams.specs.Receiving.{arrived, brought, conflicts_with, is_own, opened_receiver};
-ghost use Rattle.rtp_media_streams.specs.Receiving.{stream_of, taken_number, values_read, with_stream};
+ghost use Rattle.rtp_media_streams.specs.Receiving.{number_taken, stream_of, taken_number, values_read};
+ghost use Rattle.rtp_media_streams.specs.Receiving.{with_stream};
 ghost use Rattle.rtp_media_streams.specs.Rows.{format_of};
+
+mod missing;
 
 use crate::codecs::depacketizer_for;
 use crate::errors::PollFault;
@@ -57,7 +60,7 @@ pub struct ReceivingStream {
     buffer: DepacketizingBuffer<CodecDepacketizer<NotBoxed>>,
 }
 
-/// Written by hand so that crates that drop this type need no proof about its fields.
+/// Written by hand, so that crates that drop this type need no proof about its fields.
 impl Drop for ReceivingStream {
     fn drop(self) {
         let ReceivingStream {
@@ -73,7 +76,8 @@ impl Drop for ReceivingStream {
 }
 
 impl Model for ReceivingStream {
-    ghost use Rattle.std.specs.Prelude.{◌≡◌};
+    ghost use Rattle.std.specs.Prelude.{◌≡◌, true};
+    ghost use Rattle.h26x_payload.specs.Codings.{has_format};
     ghost use Rattle.rtp_media_streams.specs.Receiving.{Receiving, stream_of};
     ghost use Rattle.rtp_media_streams.specs.Rows.{format_of};
     ghost use Rattle.rtp_wire.specs.Replay.{window_code};
@@ -92,8 +96,8 @@ impl Model for ReceivingStream {
           (⟦<CodecDepacketizer<NotBoxed> as Depacketizer>⟧.fragment r.buffer.depacketizer);
     } };
 
-    ghost invariant = { λ r. ⟦<CodecDepacketizer<NotBoxed> as Depacketizer>⟧.format r.buffer.depacketizer
-        ≡ format_of r.row };
+    ghost invariant = { λ r. (⟦<CodecDepacketizer<NotBoxed> as Depacketizer>⟧.format r.buffer.depacketizer
+        ≡ format_of r.row) × (has_format r.row.codec ≡ true) };
 }
 
 /// The number that these 16 bits stand for; before the first number they stand for themselves.
@@ -310,6 +314,20 @@ impl ReceivingStream {
         hold(&mut self.buffer, number, arrival, datagram)?;
         record(&mut self.window, number);
         Ok(Some(number))
+    }
+
+    /// Takes the number alone of one datagram of its own, and returns it widened; None where that is refused. For a
+    /// datagram that is sent on: nothing is held, and no unit will have it.
+    pub fn take_number(&mut self, low: u16) -> Option<SeqNo>
+        ensures answer { result ≡ taken_number self.old.stream low }
+        ensures after { self.new ≡ with_stream self.old (number_taken self.old.stream low) }
+    {
+        let number = number_of(&self.window, low);
+        if !accepts(&self.window, number) {
+            return None;
+        }
+        record(&mut self.window, number);
+        Some(number)
     }
 
     /// Hands out the next unit, where one is ready.

@@ -1,9 +1,9 @@
-//! What a row says of a stream's payloads.
+//! A row's payload format, as streams use it.
 
 ghost use Rattle.std.specs.Prelude.{◌≡◌};
 ghost use Rattle.rtp_media_streams.specs.Rows.{rtp_rate_of};
 
-use payload_core_base::Codec;
+use media_types::Codec;
 use rtp_wire::Frequency;
 
 /// What a row says of a stream's payloads: its codec and clock rate, and the parameters that change the

@@ -13,7 +13,7 @@ use std::alloc::Global;
 /// The length of a header without extensions and contributing sources (RFC 3550 5.1).
 const FIXED_HEADER_LEN: usize = 12;
 
-/// What all datagrams of a stream have alike: SSRC, payload type and map of header extensions.
+/// What all datagrams of a stream share: SSRC, payload type and extension map.
 #[derive(Drop)]
 pub(crate) struct Stamp {
     pub ssrc: Ssrc,

@@ -55,14 +55,15 @@ impl PayloadTypes {
         self.pt.get() == pt.get() || is_type(self.red, pt)
     }
 
-    /// Whether datagrams of an SSRC and a type are those of a stream of this SSRC and these types, no repairs.
+    /// Whether an SSRC and a payload type are those of this stream's datagrams, retransmissions
+    /// excluded.
     pub fn is_plain_key(&self, own: Ssrc, ssrc: Ssrc, pt: Pt) -> bool
         ensures { result ≡ is_plain_key own self.now ssrc pt }
     {
         own.get() == ssrc.get() && self.has(pt)
     }
 
-    /// The same, repairs too.
+    /// The same, retransmissions included.
     pub fn is_key(&self, own: Ssrc, ssrc: Ssrc, pt: Pt) -> bool
         ensures { result ≡ is_key_of own self.now ssrc pt }
     {

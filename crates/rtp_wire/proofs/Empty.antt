@@ -1,11 +1,11 @@
 -- Under a map without extensions a header has no values.
 use Rattle.std.proofs.Common.{◌≡◌, ℕ, zero, suc, Bool, List, refl, ap, ◌∙◌, replicate}
 use Rattle.std.specs.Prelude.{Option, Some, None, slice_index_or}
-use Rattle.rtp_wire_extensions.specs.Elements.{Step, lookup, on_step, step, values_from, with_element}
-use Rattle.rtp_wire_extensions.specs.Maps.{empty_map}
-use Rattle.rtp_wire_extensions.specs.Values.{Block, absent, form_of_profile, values_in_form, values_of}
-use Rattle.rtp_wire_extensions.specs.declared.extension.Extension.{Extension}
-use Rattle.rtp_wire_extensions.specs.declared.values.ExtensionValues.{ExtensionValues}
+use Rattle.rtp_wire.specs.Elements.{Step, lookup, on_step, step, values_from, with_element}
+use Rattle.rtp_wire.specs.Maps.{empty_map}
+use Rattle.rtp_wire.specs.Values.{Block, absent, form_of_profile, values_in_form, values_of}
+use Rattle.rtp_wire.specs.declared.extension.Extension.{Extension}
+use Rattle.rtp_wire.specs.declared.values.ExtensionValues.{ExtensionValues}
 use Rattle.rtp_wire.specs.Header.{values_in}
 
 none_at : (m n : ℕ) → slice_index_or (replicate {A = Option Extension} m None) n None ≡ None

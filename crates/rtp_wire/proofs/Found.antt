@@ -7,7 +7,7 @@ use Rattle.std.specs.Int.{w16, w32, to_be_bytes, from_be_bytes}
 use Rattle.std.proofs.lemmas.Bool.Decides.{nat_tests}
 use Rattle.std.proofs.lemmas.List.{drop-drop, get_or-drop, take-append-drop}
 use Rattle.std.proofs.lemmas.Nat.{be_bytes_2, be_bytes_4}
-use Rattle.rtp_wire_extensions.specs.Values.{Numbering, Block}
+use Rattle.rtp_wire.specs.Values.{Numbering, Block}
 use Rattle.rtp_wire.specs.declared.header.RtpHeader.{RtpHeader}
 use Rattle.rtp_wire.specs.Header.{u16_at, words_in, has_bit, csrc_count_in, has_extension_in, block_at}
 use Rattle.rtp_wire.specs.Header.{header_length_in, is_header, block_in, values_in, slots, fields_in, header_in}

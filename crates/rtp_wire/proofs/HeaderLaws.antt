@@ -7,17 +7,17 @@ use Rattle.std.specs.Int.{w16, w32, to_be_bytes, from_be_bytes}
 use Rattle.std.proofs.lemmas.Bool.Decides.{nat_tests}
 use Rattle.std.proofs.lemmas.List.{drop-drop, take_at, drop_at}
 use Rattle.std.proofs.lemmas.Nat.{from_be_bytes-to_be_bytes_4, from_be_bytes-to_be_bytes_2}
-use Rattle.rtp_wire_extensions.specs.Values.{Numbering, Block, absent, values_of, block_of, two_byte_block}
-use Rattle.rtp_wire_extensions.specs.Values.{image_values}
+use Rattle.rtp_wire.specs.Values.{Numbering, Block, absent, values_of, block_of, two_byte_block}
+use Rattle.rtp_wire.specs.Values.{image_values}
 use Rattle.rtp_wire.specs.declared.header.RtpHeader.{RtpHeader}
 use Rattle.rtp_wire.specs.Header.{u16_at, u32_at, words_in, has_bit, csrc_count_in, has_extension_in, block_at}
 use Rattle.rtp_wire.specs.Header.{header_length_in, is_header, block_in, values_in, slots, fields_in, header_in}
 use Rattle.rtp_wire.specs.Header.{header_of, layout_of, spelled, two_byte_length, image, payload_in, IsWritable}
 use Rattle.rtp_wire.specs.Layout.{Layout, bit, is_some_block, block_bytes, words, layout_bytes, IsBlock, IsLayout}
-use Rattle.rtp_wire.proofs.Lengths.{length-words, length-layout, block-not}
-use Rattle.rtp_wire_extensions.proofs.BlockLaws.{block_of-shorter, block_of-fits, block_of-words}
-use Rattle.rtp_wire_extensions.proofs.BlockLaws.{values_of-block_of}
-use Rattle.rtp_wire_extensions.specs.declared.values.ExtensionValues.{ExtensionValues}
+use Rattle.rtp_wire.proofs.LengthsLemmas.{length-words, length-layout, block-not}
+use Rattle.rtp_wire.proofs.BlockLaws.{block_of-shorter, block_of-fits, block_of-words}
+use Rattle.rtp_wire.proofs.BlockLaws.{values_of-block_of}
+use Rattle.rtp_wire.specs.declared.values.ExtensionValues.{ExtensionValues}
 
 -- the first two bytes
 first-version : (p x : Bool) (n : ℕ) → n ≤ 15 → (128 + 32 * bit p + 16 * bit x + n) / 64 ≡ 2

@@ -7,14 +7,14 @@ use Rattle.std.specs.Int.{w16, w32, to_be_bytes, from_be_bytes}
 use Rattle.std.proofs.lemmas.Bool.Decides.{nat_tests}
 use Rattle.std.proofs.lemmas.List.{take_at, drop_at}
 use Rattle.std.proofs.lemmas.Nat.{from_be_bytes-to_be_bytes_2}
-use Rattle.rtp_wire_extensions.specs.Values.{Numbering}
+use Rattle.rtp_wire.specs.Values.{Numbering}
 use Rattle.rtp_wire.specs.declared.header.RtpHeader.{RtpHeader}
 use Rattle.rtp_wire.specs.Header.{header_in, header_of, payload_in, IsSpelled}
 use Rattle.rtp_wire.specs.Layout.{Layout, bit, is_some_block, block_bytes, words, layout_bytes, IsBytes, IsLayout}
 use Rattle.rtp_wire.specs.Padding.{unpadded, without}
 use Rattle.rtp_wire.proofs.Found.{header_in-found}
 use Rattle.rtp_wire.proofs.HeaderLaws.{header_in-layout}
-use Rattle.rtp_wire.proofs.Lengths.{length-layout, length-words}
+use Rattle.rtp_wire.proofs.LengthsLemmas.{length-layout, length-words}
 use Rattle.rtp_wire.specs.Repairs.{Wrapped, readdressed, readdressed_layout, repair_of, retyped, wrapped_in}
 
 retyped-is : (pt : ℕ) (marker : Bool) (was : ℕ) → was < 128 → retyped pt (128 * bit marker + was)

@@ -1,8 +1,8 @@
 use Rattle.std.specs.Prelude.{true, false, replicate}
-use Rattle.rtp_wire_extensions.specs.Values.{absent}
+use Rattle.rtp_wire.specs.Values.{absent}
 use Rattle.rtp_wire.specs.declared.header.RtpHeader.{RtpHeader}
 
--- A header with nothing set: version 2, an empty extension block, type 1.
+-- The default header: version 2, an empty extension block, payload type 1.
 abbrev pub default_header : RtpHeader
 default_header = record {
   version = 2;

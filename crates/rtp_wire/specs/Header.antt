@@ -2,21 +2,21 @@ use Rattle.std.specs.Prelude.{true, ℕ, ◌≡◌, ◌+◌, ◌*◌, ◌/◌, �
 use Rattle.std.specs.Prelude.{if◌then◌else◌, zero, suc, List, [], ◌∷◌, ◌++◌, length, take, drop, replicate}
 use Rattle.std.specs.Prelude.{slice_index, All, Option, Some, None}
 use Rattle.std.specs.Int.{w16, w32, from_be_bytes}
-use Rattle.rtp_wire_extensions.specs.Carried.{AreValues}
-use Rattle.rtp_wire_extensions.specs.Values.{Numbering, Block, absent, values_of, block_of, two_byte_block}
-use Rattle.rtp_wire_extensions.specs.Values.{image_values}
-use Rattle.rtp_wire_extensions.specs.declared.values.ExtensionValues.{ExtensionValues}
+use Rattle.rtp_wire.specs.Carried.{AreValues}
+use Rattle.rtp_wire.specs.Values.{Numbering, Block, absent, values_of, block_of, two_byte_block}
+use Rattle.rtp_wire.specs.Values.{image_values}
+use Rattle.rtp_wire.specs.declared.values.ExtensionValues.{ExtensionValues}
 use Rattle.rtp_wire.specs.declared.header.RtpHeader.{RtpHeader}
 use Rattle.rtp_wire.specs.Layout.{Layout, is_some_block, layout_bytes, IsLayout}
 
--- Numbers of two and of four bytes at a place.
+-- Two-byte and four-byte numbers at an offset.
 abbrev pub u16_at : List ℕ → ℕ → ℕ
 u16_at bytes at = from_be_bytes w16 (drop at bytes)
 
 abbrev pub u32_at : List ℕ → ℕ → ℕ
 u32_at bytes at = from_be_bytes w32 (drop at bytes)
 
--- So many words, one behind the other.
+-- n words in a row.
 abbrev pub words_in : ℕ → List ℕ → List ℕ
 words_in zero bytes = []
 words_in (suc n) bytes = from_be_bytes w32 bytes ∷ words_in n (drop 4 bytes)
@@ -30,7 +30,7 @@ csrc_count_in bytes = slice_index bytes 0 % 16
 abbrev pub has_extension_in : List ℕ → Bool
 has_extension_in bytes = has_bit (slice_index bytes 0) 16
 
--- Where the extension block begins.
+-- The offset of the extension block.
 abbrev pub block_at : List ℕ → ℕ
 block_at bytes = 12 + 4 * csrc_count_in bytes
 
@@ -39,7 +39,7 @@ abbrev pub header_length_in : List ℕ → ℕ
 header_length_in bytes =
     if has_extension_in bytes then block_at bytes + 4 + 4 * u16_at bytes (block_at bytes + 2) else block_at bytes
 
--- The version is 2, and nothing of the header passes the end.
+-- The version is 2, and the header doesn't exceed the bytes.
 abbrev pub is_header : List ℕ → Bool
 is_header bytes = (slice_index bytes 0 / 64 == 2) && nat_le (header_length_in bytes) (length bytes)
 
@@ -54,7 +54,7 @@ abbrev pub values_in : Numbering → Option Block → ExtensionValues
 values_in map None = absent
 values_in map (Some block) = values_of map block
 
--- The contributing sources in their fifteen places.
+-- The CSRCs in their fifteen slots.
 abbrev pub slots : List ℕ → List ℕ
 slots csrc = csrc ++ replicate (15 - length csrc) 0
 
@@ -74,7 +74,7 @@ fields_in map bytes = record {
   header_len = header_length_in bytes;
 }
 
--- The header in front of a datagram, where there is one (RFC 3550 5.1).
+-- The header of a datagram, if it starts with one (RFC 3550 5.1).
 abbrev pub header_in : Numbering → List ℕ → Option RtpHeader
 header_in map bytes = if is_header bytes then Some (fields_in map bytes) else None
 
@@ -108,7 +108,7 @@ layout_in bytes = record {
   extension = block_in bytes;
 }
 
--- The bytes begin with a header that means this one: some layout spells it, with anything behind.
+-- The bytes start with a header that means this one: some layout spells it, with anything after it.
 pub record IsSpelled (map : Numbering) (bytes : List ℕ) (header : RtpHeader) : Type 0 where
   pub layout : Layout
   pub rest : List ℕ
@@ -143,7 +143,7 @@ two_byte_length map header =
     12 + 4 * header.csrc_count + (if header.has_extension
     then 4 + length (two_byte_block map header.ext_vals).content else 0)
 
--- The header that is read back where one was written: its wire image.
+-- The header read back after one is written: its wire image.
 abbrev pub image : Numbering → RtpHeader → RtpHeader
 image map header = record {
   version = 2;
@@ -160,7 +160,7 @@ image map header = record {
   header_len = length (spelled map header);
 }
 
--- The fields are in the ranges of their types, and what is written of them fits.
+-- The fields are in range, and what is written of them fits.
 pub record IsWritable (header : RtpHeader) : Type 0 where
   pub payload_type : header.payload_type < 128
   pub sequence_number : header.sequence_number < 2 ^ 16

@@ -2,9 +2,9 @@ use Rattle.std.specs.Prelude.{slice_index, ℕ, ◌≡◌, ◌+◌, ◌*◌, ◌
 use Rattle.std.specs.Prelude.{◌++◌, length, All, Option, Some, None}
 use Rattle.std.specs.List.{flat_map}
 use Rattle.std.specs.Int.{w16, w32, to_be_bytes}
-use Rattle.rtp_wire_extensions.specs.Values.{Block}
+use Rattle.rtp_wire.specs.Values.{Block}
 
--- What a header says, as it lies on the wire (RFC 3550 5.1 and 5.3.1).
+-- A header's fields as they are on the wire (RFC 3550 5.1 and 5.3.1).
 pub record Layout : Type 0 where
   pub padding : Bool
   pub marker : Bool
@@ -58,6 +58,6 @@ pub record IsLayout (l : Layout) : Type 0 where
   pub csrc : All (λ c. c < 2 ^ 32) l.csrc
   pub extension : IsBlock l.extension
 
--- Numbers that are bytes.
+-- All numbers are bytes.
 abbrev pub IsBytes : List ℕ → Type 0
 IsBytes bytes = (i : ℕ) → slice_index bytes i < 256

@@ -1,7 +1,7 @@
 use Rattle.std.specs.Prelude.{ℕ, ◌≡◌, ◌<◌, ◌-◌, Bool, true, false, ◌==◌, ◌||◌, nat_lt, if◌then◌else◌, List, ◌++◌}
 use Rattle.std.specs.Prelude.{length, take, slice_index, Option, Some, None}
 
--- The payload in front of so many padding bytes, at least one.
+-- The payload before `count` padding bytes (at least one).
 abbrev pub without : ℕ → List ℕ → Option (List ℕ)
 without count payload =
     if (count == 0) || nat_lt (length payload) count then None
@@ -12,11 +12,11 @@ abbrev pub unpadded : Bool → List ℕ → Option (List ℕ)
 unpadded false payload = Some payload
 unpadded true payload = without (slice_index payload (length payload - 1)) payload
 
--- Bytes of padding: at least one, and the last one counts them (RFC 3550 5.1).
+-- Padding: at least one byte, and the last one is the count (RFC 3550 5.1).
 pub record IsPadding (padding : List ℕ) : Type 0 where
   pub some_byte : 0 < length padding
   pub counted : slice_index padding (length padding - 1) ≡ length padding
 
--- A payload is these bytes and padding behind them.
+-- The payload is these bytes followed by padding.
 abbrev pub IsPadded : List ℕ → List ℕ → Type 0
 IsPadded payload body = (padding : List ℕ) × (payload ≡ body ++ padding) × IsPadding padding

@@ -2,8 +2,8 @@
 
 ghost use Rattle.std.specs.Prelude.{◌≡◌};
 
-use rtp_wire_extensions::ExtensionValues;
-use rtp_wire_values::{Pt, Ssrc};
+use crate::numbers::{Pt, Ssrc};
+use crate::values::ExtensionValues;
 
 /// The header of an RTP packet (RFC 3550 5.1).
 #[derive(Clone, Copy, Debug, Drop)]
@@ -26,7 +26,7 @@ pub struct RtpHeader {
     pub timestamp: u32,
     /// The stream's source.
     pub ssrc: Ssrc,
-    /// The contributing sources; the places past `csrc_count` are 0 in a header that was read.
+    /// The CSRCs; entries past `csrc_count` are 0 in a parsed header.
     pub csrc: [u32; 15],
     /// The values of the header extensions.
     pub ext_vals: ExtensionValues,
@@ -40,7 +40,8 @@ impl Default for RtpHeader {
 
     ghost is_default = { λ h. h ≡ default_header };
 
-    /// Version 2, an extension block, type 1, 16 bytes as read; the rest 0, false or absent.
+    /// Version 2, an extension block, payload type 1, length 16; everything else 0, false or
+    /// absent.
     fn default() -> RtpHeader {
         RtpHeader {
             version: 2,

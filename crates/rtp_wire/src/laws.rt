@@ -1,17 +1,17 @@
 //! What holds of every header and of padding.
 
 ghost use Rattle.std.specs.Prelude.{◌≡◌, ◌++◌, Some, true, false, length, ℕ, ◌%◌, ◌≤◌, List};
-ghost use Rattle.rtp_wire_extensions.specs.Values.{Numbering};
+ghost use Rattle.rtp_wire.specs.Values.{Numbering};
 ghost use Rattle.rtp_wire.specs.declared.header.RtpHeader.{RtpHeader};
 ghost use Rattle.rtp_wire.specs.Header.{header_in, header_of, spelled, two_byte_length, image, payload_in, IsSpelled};
 ghost use Rattle.rtp_wire.specs.Header.{IsWritable};
 ghost use Rattle.rtp_wire.specs.Padding.{unpadded, IsPadded};
 ghost use Rattle.rtp_wire.specs.Layout.{Layout, layout_bytes, IsBytes, IsLayout};
 
-/// What a header is on the wire. Bytes in which a header is read begin with what spells it; what
-/// spells a header is read as that header, whatever stands behind it, so bytes in which none is read
-/// begin with nothing that spells one. What was written reads as its wire image, is whole words, and
-/// is no longer than in the two-byte form.
+/// What a header is on the wire. If a header can be read, the bytes begin with a spelling of it;
+/// and a spelling is read as its header whatever follows it, so bytes from which none can be read
+/// begin with no spelling. What was written reads back as its wire image, is a whole number of
+/// words, and is no longer than in the two-byte form.
 pub fn header_laws()
     ensures found { (map : Numbering) (bytes : List ℕ) (header : RtpHeader) → IsBytes bytes →
         header_in map bytes ≡ Some header → IsSpelled map bytes header }
@@ -27,8 +27,8 @@ pub fn header_laws()
     ensures within { (map : Numbering) (header : RtpHeader) → length (spelled map header) ≤ two_byte_length map header }
 {}
 
-/// Padding is taken off exactly where a payload is some bytes, maybe none, and padding behind them: at
-/// least one byte, the last one counting them (RFC 3550 5.1).
+/// Padding is removed if and only if the payload is some bytes (maybe none) followed by padding: at
+/// least one byte, the last one being their count (RFC 3550 5.1).
 pub fn padding_laws()
     ensures taken_off { (payload body : List ℕ) → IsPadded payload body → unpadded true payload ≡ Some body }
     ensures was_padded { (payload body : List ℕ) → unpadded true payload ≡ Some body → IsPadded payload body }

@@ -4,7 +4,7 @@ ghost use Rattle.std.specs.Prelude.{◌≡◌, ◌≤◌, ◌%◌, ◌++◌, dro
 ghost use Rattle.std.specs.Int.{w16, to_be_bytes, from_be_bytes};
 
 use crate::header::RtpHeader;
-use rtp_wire_values::SeqNo;
+use crate::sequence::SeqNo;
 
 impl RtpHeader {
     /// Writes the low 16 bits of a number in front of the buffer (RFC 4588 4), and returns their length. The bytes

@@ -4,13 +4,16 @@ ghost use Rattle.std.specs.Prelude.{◌≡◌, ◌+◌, ◌*◌, ◌≤◌, ◌<
 ghost use Rattle.rtp_wire.specs.Header.{u16_at, u32_at, words_in, slots, is_header, header_in, fields_in};
 ghost use Rattle.rtp_wire.specs.Header.{header_length_in, has_bit, csrc_count_in, has_extension_in, block_at};
 ghost use Rattle.rtp_wire.specs.Header.{block_in, values_in};
-ghost use Rattle.rtp_wire_values.specs.Widening.{widened};
-ghost use Rattle.rtp_wire_extensions.specs.Maps.{empty_map};
+ghost use Rattle.rtp_wire.specs.Widening.{widened};
+ghost use Rattle.rtp_wire.specs.Maps.{empty_map};
 ghost use Rattle.std.specs.Option.{option_map};
 
 use crate::header::RtpHeader;
-use rtp_wire_extensions::{ExtensionMap, ExtensionValues};
-use rtp_wire_values::{Pt, SeqNo, Ssrc, extend_u16};
+use crate::map::ExtensionMap;
+use crate::numbers::{Pt, Ssrc};
+use crate::sequence::SeqNo;
+use crate::values::ExtensionValues;
+use crate::widening::extend_u16;
 
 /// The number of two bytes at a place.
 fn u16_at(bytes: &[u8], at: usize) -> u16
@@ -28,7 +31,7 @@ fn u32_at(bytes: &[u8], at: usize) -> u32
     u32::from_be_bytes([bytes[at], bytes[at + 1], bytes[at + 2], bytes[at + 3]])
 }
 
-/// Whether the bit of this worth is set.
+/// Whether the bit with this weight is set.
 fn has_bit(byte: u8, worth: u8) -> bool
     requires { 0 < worth }
     ensures { result ≡ has_bit byte worth }

@@ -4,7 +4,7 @@ ghost use Rattle.std.specs.Prelude.{◌≡◌, ◌+◌, ◌<◌, ◌≤◌, ◌�
 ghost use Rattle.std.specs.Prelude.{IfOk, MatchOption, OnOk};
 ghost use Rattle.rtp_wire.specs.Repairs.{repair_of, wrapped_in};
 
-use rtp_wire_values::{Pt, Ssrc};
+use crate::numbers::{Pt, Ssrc};
 use std::alloc::{AllocError, Global};
 
 /// The repair of a datagram behind a header of so many bytes: its type, number and SSRC are replaced, the two bytes of
@@ -42,7 +42,7 @@ pub fn repair_of(
     Ok(bytes)
 }
 
-/// Puts the two bytes of a datagram's number and what stands behind its header behind other bytes.
+/// Appends the two bytes of a datagram's sequence number and the bytes after its header.
 fn push_wrapped(bytes: &mut Vec<u8>, datagram: &[u8], header_len: usize) -> Result<(), AllocError>
     requires fixed { 4 ≤ length datagram.now }
     requires header { header_len ≤ length datagram.now }

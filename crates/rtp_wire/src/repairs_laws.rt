@@ -5,14 +5,14 @@ ghost use Rattle.std.specs.Int.{w16, to_be_bytes};
 ghost use Rattle.rtp_wire.specs.Header.{header_in, payload_in};
 ghost use Rattle.rtp_wire.specs.Layout.{IsBytes};
 ghost use Rattle.rtp_wire.specs.Padding.{unpadded};
-ghost use Rattle.rtp_wire_extensions.specs.Values.{Numbering};
+ghost use Rattle.rtp_wire.specs.Values.{Numbering};
 ghost use Rattle.rtp_wire.specs.declared.header.RtpHeader.{RtpHeader};
 ghost use Rattle.rtp_wire.specs.Repairs.{readdressed, repair_of, wrapped_in};
 
-/// The repair of a datagram reads as the datagram's header with another payload type, number and SSRC, under each map
-/// of header extensions. Behind it stand the two bytes of the datagram's number and the datagram's payload. Without its
-/// padding that payload wraps the datagram's number and its payload without padding, where that one has a byte. It is
-/// two bytes longer than the datagram.
+/// The retransmission of a datagram reads as the datagram's header with another payload type,
+/// sequence number and SSRC, with any extension map. After it come the two bytes of the datagram's
+/// number and the datagram's payload. Without its padding, that payload wraps the datagram's number
+/// and its payload without padding, if that isn't empty. It is two bytes longer than the datagram.
 pub fn repair_laws()
     ensures reads { (map : Numbering) (datagram : List ℕ) (header : RtpHeader) (pt number ssrc : ℕ) →
         IsBytes datagram → header_in map datagram ≡ Some header → pt < 128 → number < 2 ^ 16 → ssrc < 2 ^ 32 →

@@ -5,8 +5,9 @@ ghost use Rattle.rtp_wire.specs.Header.{header_in};
 ghost use Rattle.rtp_wire.specs.Run.{reception_of, window_behind, receptions};
 
 use crate::header::RtpHeader;
-use rtp_wire_extensions::ExtensionMap;
-use rtp_wire_values::{SeqNo, SeqNoWindow};
+use crate::map::ExtensionMap;
+use crate::sequence::SeqNo;
+use crate::window::SeqNoWindow;
 use std::alloc::{AllocError, Global};
 
 /// What became of a datagram.

@@ -3,12 +3,13 @@
 ghost use Rattle.std.specs.Prelude.{◌≡◌, ◌+◌, ◌*◌, ◌≤◌, ◌<◌, ◌++◌, ◌^◌, ℕ, List, Some, All, length, take, drop};
 ghost use Rattle.rtp_wire.specs.Header.{layout_of, spelled, two_byte_length, IsWritable};
 ghost use Rattle.rtp_wire.specs.Layout.{fixed_bytes, words as words_of, block_bytes};
-ghost use Rattle.rtp_wire_extensions.specs.Carried.{AreValues};
-ghost use Rattle.rtp_wire_extensions.specs.Values.{Numbering, block_of};
-ghost use Rattle.rtp_wire_extensions.specs.Written.{IsWritten};
+ghost use Rattle.rtp_wire.specs.Carried.{AreValues};
+ghost use Rattle.rtp_wire.specs.Values.{Numbering, block_of};
+ghost use Rattle.rtp_wire.specs.Written.{IsWritten};
 
 use crate::header::RtpHeader;
-use rtp_wire_extensions::{ExtensionMap, put};
+use crate::map::ExtensionMap;
+use crate::value_writing::put;
 
 impl RtpHeader {
     /// The length of the header on the wire, in bytes: a multiple of four.

@@ -1,7 +1,6 @@
 //! What came of each line, in words.
 
-use rtp_media::{Program, RunFault, Status};
-use rtp_media_explaining::{Known, answer_and_explain};
+use rtp_media_program::{Known, Program, RunFault, Status, answer_and_explain};
 use std::io::{ErrorKind, Read};
 
 /// Prints each line with its number, what the program replies to it, and why where it is an `error line` or refused; at

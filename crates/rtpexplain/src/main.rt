@@ -7,8 +7,8 @@ mod explaining;
 use explaining::explain_input;
 use std::process::ExitCode;
 
-/// Status 0, or 2 where an `error line` was printed; 1 where the input could not be read, the words could not be
-/// written, or memory ran out, after a line on standard error that says which.
+/// Status 0, or 2 if an `error line` was printed; 1 if reading or writing failed or memory ran out,
+/// with a message on standard error.
 fn main(rt: HostRuntime) -> ExitCode {
     match explain_input(&rt) {
         Ok(status) => ExitCode::from(status.code()),

@@ -72,7 +72,8 @@ fn put(rt: &HostRuntime, x: u64, y: u64, anchor: &str, number: u64) -> io::Resul
     )
 }
 
-/// The least of 1, 2, 5, 10, 20, .. of which no more than the most parts make up a span.
+/// The smallest of 1, 2, 5, 10, 20, .. that divides a span into no more than the maximum number of
+/// parts.
 fn step_of(span: u64) -> u64 {
     let mut unit: u64 = 1;
     for _ in 0..20 {

@@ -145,7 +145,7 @@ impl Holding {
         }
     }
 
-    /// Holds what a step takes, and lets go what a unit has and passes over.
+    /// Adds the packet a step takes; removes those of a unit it hands out or skips.
     pub(crate) fn go_on(&mut self, step: Step) -> Result<(), AllocError> {
         match step {
             Step::Taken(number) if !self.is_passed(number) => self.held.push(number)?,

@@ -1,5 +1,6 @@
-//! Draws what came of a receiving stream: reads the replies of `rtplines`, or what `rtpexplain` says, and writes
-//! a picture (SVG) of the numbers that were taken, refused, lost and held, and of the units, one reply after the other.
+//! Draws what happened on a receiving stream: reads the replies of `rtplines`, or the output of
+//! `rtpexplain`, and writes an SVG picture of the numbers taken, refused, lost and held, and of the
+//! units, one reply after another.
 #![tactic(auto)]
 
 mod axes;

@@ -1,6 +1,6 @@
 //! The files of streams.
 
-use crate::gaps::{amr_wb_frames, opus_packets, sound};
+use crate::gaps::{Silence, amr_wb_frames, opus_packets, sound};
 use crate::stream::{Stream, Unit};
 use h26x_payload::Codec;
 use media_files::{
@@ -10,9 +10,9 @@ use media_files::{
 use std::alloc::{AllocError, Global};
 
 // What an encoder of Opus needs in front, at 48,000 samples a second, and a player skips.
-const PRE_SKIP: u16 = 312;
+pub(crate) const PRE_SKIP: u16 = 312;
 
-/// The ending of a file's name; None where the codec has no file.
+/// The ending of a file's name; None if the codec has no file.
 pub(crate) fn ending_of(codec: Codec) -> Option<&'static str> {
     match codec {
         Codec::Vp8 | Codec::Vp9 | Codec::Av1 => Some("ivf"),
@@ -47,7 +47,7 @@ fn bare(alloc: Global, units: &[Unit]) -> Result<Vec<&[u8]>, AllocError> {
     Ok(list)
 }
 
-/// The file of pictures, or of units behind start codes.
+/// The file of pictures, or of units after start codes.
 fn video_file(alloc: Global, stream: &Stream) -> Result<Vec<u8>, RecordingError> {
     let codec = match stream.row.codec {
         Codec::Vp8 => IvfCodec::Vp8,
@@ -60,26 +60,33 @@ fn video_file(alloc: Global, stream: &Stream) -> Result<Vec<u8>, RecordingError>
 }
 
 /// The file of a stream, if its codec has one.
-pub(crate) fn file_of(alloc: Global, stream: &Stream) -> Result<Option<Vec<u8>>, RecordingError> {
+pub(crate) fn file_of(
+    alloc: Global,
+    stream: &Stream,
+    silence: &mut Silence,
+) -> Result<Option<Vec<u8>>, RecordingError> {
     if ending_of(stream.row.codec).is_none() {
         return Ok(None);
     }
     let units = stream.units.as_slice();
-    let (codec, silence) = match stream.row.codec {
+    let (codec, quiet) = match stream.row.codec {
         Codec::Opus => {
             let stream = OpusStream {
                 channels: stream.row.channels.clamp(1, 2),
                 pre_skip: PRE_SKIP,
                 serial: stream.ssrc.get(),
             };
-            return Ok(Some(opus_file(alloc, stream, &opus_packets(alloc, units)?)?));
+            return Ok(Some(opus_file(alloc, stream, &opus_packets(alloc, units, silence)?)?));
         }
-        Codec::AmrWb => return Ok(Some(amr_wb_file(alloc, &amr_wb_frames(alloc, units)?)?)),
+        Codec::AmrWb => return Ok(Some(amr_wb_file(
+            alloc,
+            &amr_wb_frames(alloc, units, silence)?,
+        )?)),
         Codec::PCMU => (WavCodec::Pcmu, 0xff),
         Codec::PCMA => (WavCodec::Pcma, 0xd5),
         Codec::G722 => (WavCodec::G722, 0xfa),
         _ => return Ok(Some(video_file(alloc, stream)?)),
     };
-    let bytes = sound(alloc, units, silence)?;
+    let bytes = sound(alloc, units, quiet, silence)?;
     Ok(Some(wav_file(alloc, codec, &[bytes.as_slice()])?))
 }

@@ -4,17 +4,56 @@ use crate::stream::Unit;
 use media_files::opus_duration;
 use std::alloc::{AllocError, Global};
 
-// A gap is filled as far as so many packets, or so many bytes.
-const MOST_PACKETS: u32 = 100_000;
-
-const MOST_BYTES: u32 = 28_800_000;
-
 // How many ticks a frame of AMR-WB has, and how many bytes follow the header of each type (RFC 4867 5.3).
 const AMR_WB_FRAME: u32 = 320;
 
+const AMR_WB_RATE: u32 = 16000;
+
 const AMR_WB_BYTES: [usize; 16] = [17, 23, 32, 36, 40, 46, 50, 58, 60, 5, 0, 0, 0, 0, 0, 0];
 
-/// How many steps of so many ticks are missing between a packet that has some at a time and the next.
+// Ticks a second of packets of Opus, and of sound with a byte a tick.
+const OPUS_RATE: u32 = 48000;
+
+const SOUND_RATE: u32 = 8000;
+
+/// How much of the gaps is filled.
+#[derive(Clone, Copy)]
+pub(crate) struct Silence {
+    /// How many milliseconds of one gap.
+    longest: u64,
+    /// How many milliseconds of all gaps that are left.
+    left: u64,
+    /// How many gaps were longer than what was filled.
+    pub(crate) shortened: u64,
+}
+
+impl Silence {
+    /// So many seconds of one gap, and of all.
+    pub(crate) fn of(longest_gap: usize, most_silence: usize) -> Silence {
+        Silence {
+            longest: (longest_gap as u64).saturating_mul(1000),
+            left: (most_silence as u64).saturating_mul(1000),
+            shortened: 0,
+        }
+    }
+
+    /// How many of the missing steps of so many ticks are filled, at so many ticks a second.
+    fn fill(&mut self, missing: u32, step: u32, rate: u32) -> u32 {
+        let most = self.longest.min(self.left).saturating_mul(rate as u64) / 1000;
+        let steps = most.checked_div(step as u64).unwrap_or(0);
+        let filled = (missing as u64).min(steps);
+        if filled < missing as u64 {
+            self.shortened = self.shortened.saturating_add(1);
+        }
+        let ticks = filled.saturating_mul(step as u64).saturating_mul(1000);
+        let spent = ticks.checked_div(rate as u64).unwrap_or(0);
+        self.left = self.left.saturating_sub(spent);
+        u32::try_from(filled).unwrap_or(missing)
+    }
+}
+
+/// How many steps of `step` ticks are missing between a packet with a time and a duration and the
+/// next packet.
 fn missing(time: u32, ticks: u32, next: u32, step: u32) -> u32 {
     let elapsed = next.wrapping_sub(time);
     if step == 0 || elapsed >= 0x8000_0000 {
@@ -40,7 +79,7 @@ fn amr_wb_ticks(unit: &[u8]) -> u32 {
 
 /// Takes so many lost packets.
 fn push_lost<'a>(count: u32, items: &mut Vec<Option<&'a [u8]>>) -> Result<(), AllocError> {
-    for _ in 0..count.min(MOST_PACKETS) {
+    for _ in 0..count {
         items.push(None)?;
     }
     Ok(())
@@ -50,12 +89,14 @@ fn push_lost<'a>(count: u32, items: &mut Vec<Option<&'a [u8]>>) -> Result<(), Al
 pub(crate) fn opus_packets<'a>(
     alloc: Global,
     units: &'a [Unit],
+    silence: &mut Silence,
 ) -> Result<Vec<Option<&'a [u8]>>, AllocError> {
     let mut items = Vec::new(alloc);
     let mut before = None;
     for unit in units {
         if let Some((time, ticks)) = before {
-            push_lost(missing(time, ticks, unit.time, ticks), &mut items)?;
+            let lost = missing(time, ticks, unit.time, ticks);
+            push_lost(silence.fill(lost, ticks, OPUS_RATE), &mut items)?;
         }
         items.push(Some(unit.bytes.as_slice()))?;
         before = Some((unit.time, opus_duration(&unit.bytes) as u32));
@@ -67,12 +108,14 @@ pub(crate) fn opus_packets<'a>(
 pub(crate) fn amr_wb_frames<'a>(
     alloc: Global,
     units: &'a [Unit],
+    silence: &mut Silence,
 ) -> Result<Vec<Option<&'a [u8]>>, AllocError> {
     let mut items = Vec::new(alloc);
     let mut before = None;
     for unit in units {
         if let Some((time, ticks)) = before {
-            push_lost(missing(time, ticks, unit.time, AMR_WB_FRAME), &mut items)?;
+            let lost = missing(time, ticks, unit.time, AMR_WB_FRAME);
+            push_lost(silence.fill(lost, AMR_WB_FRAME, AMR_WB_RATE), &mut items)?;
         }
         items.push(Some(unit.bytes.as_slice()))?;
         before = Some((unit.time, amr_wb_ticks(&unit.bytes)));
@@ -80,15 +123,20 @@ pub(crate) fn amr_wb_frames<'a>(
     Ok(items)
 }
 
-/// The bytes of sound with one byte a tick, and silence for those that are missing by the times.
-pub(crate) fn sound(alloc: Global, units: &[Unit], silence: u8) -> Result<Vec<u8>, AllocError> {
+/// The bytes of sound with one byte a tick, and a byte of silence for each tick that is missing by the times.
+pub(crate) fn sound(
+    alloc: Global,
+    units: &[Unit],
+    quiet: u8,
+    silence: &mut Silence,
+) -> Result<Vec<u8>, AllocError> {
     let mut bytes = Vec::new(alloc);
     let mut before = None;
     for unit in units {
         if let Some((time, len)) = before {
-            let count = missing(time, len, unit.time, 1).min(MOST_BYTES);
-            for _ in 0..count {
-                bytes.push(silence)?;
+            let lost = missing(time, len, unit.time, 1);
+            for _ in 0..silence.fill(lost, 1, SOUND_RATE) {
+                bytes.push(quiet)?;
             }
         }
         bytes.extend_from_slice(&unit.bytes)?;

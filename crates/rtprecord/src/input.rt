@@ -3,10 +3,44 @@
 use crate::recorder::Recorder;
 use anyhow::bail;
 use media_files::captures::{
-    Capture, CaptureError, CapturedPacket, HexDatagram, HexError, Rtpdump, read_hex_lines,
-    read_pcap, read_pcapng, read_rtpdump, udp_payload_in,
+    Capture, CaptureError, CapturedPacket, HexDatagram, HexError, Resolution, Rtpdump,
+    read_hex_lines, read_pcap, read_pcapng, read_rtpdump, udp_datagram_in,
 };
-use std::alloc::Global;
+use std::alloc::{AllocError, Global};
+
+/// A datagram of a capture.
+#[derive(Clone, Copy)]
+pub(crate) struct Arrival<'a> {
+    /// When it came, in microseconds, if the capture says it.
+    pub(crate) time: Option<u64>,
+    /// The ports that it comes from and goes to, if the capture says them.
+    pub(crate) ports: Option<(u16, u16)>,
+    /// Its payload.
+    pub(crate) bytes: &'a [u8],
+}
+
+impl Arrival<'_> {
+    /// The port that it goes to, if the capture says it.
+    pub(crate) fn port(&self) -> Option<u16> {
+        let (_, destination) = self.ports?;
+        Some(destination)
+    }
+
+    /// Whether it comes from or goes to one of the ports, if there are any.
+    pub(crate) fn is_at(&self, ports: &[u16]) -> bool {
+        if ports.is_empty() {
+            return true;
+        }
+        match self.ports {
+            Some((source, destination)) => {
+                ports
+                    .iter()
+                    .any(|port| *port == source || *port == destination)
+            }
+            None => true,
+        }
+    }
+}
 
 /// What a file holds.
 #[derive(Drop)]
@@ -47,7 +81,7 @@ impl<'a> Input<'a> {
     }
 
     /// Hands each datagram to the recorder, in their order.
-    pub(crate) fn feed(&self, recorder: &mut Recorder) -> anyhow::Result<()> {
+    pub(crate) fn feed(&self, recorder: &mut Recorder) -> Result<(), AllocError> {
         match self {
             Input::Packets(capture) => {
                 for packet in &capture.packets {
@@ -57,13 +91,21 @@ impl<'a> Input<'a> {
             }
             Input::Dump(dump) => {
                 for datagram in &dump.datagrams {
-                    recorder.take(datagram.bytes)?;
+                    recorder.take(&Arrival {
+                        time: Some((datagram.milliseconds as u64).saturating_mul(1000)),
+                        ports: None,
+                        bytes: datagram.bytes,
+                    })?;
                 }
                 recorder.leave(dump.unread.len());
             }
             Input::Lines(datagrams) => {
                 for datagram in datagrams {
-                    recorder.take(&datagram.bytes)?;
+                    recorder.take(&Arrival {
+                        time: datagram.milliseconds.map(|time| time.saturating_mul(1000)),
+                        ports: None,
+                        bytes: &datagram.bytes,
+                    })?;
                 }
             }
         }
@@ -71,10 +113,27 @@ impl<'a> Input<'a> {
     }
 }
 
+/// How many microseconds so many ticks are, rounded down.
+fn microseconds(ticks: u64, resolution: Resolution) -> u64 {
+    let (is_decimal, digits) = match resolution {
+        Resolution::Decimal(digits) => (true, digits),
+        Resolution::Binary(digits) => (false, digits),
+    };
+    let mut whole = (ticks as u128).saturating_mul(1_000_000);
+    for _ in 0..digits {
+        whole = if is_decimal { whole / 10 } else { whole / 2 };
+    }
+    u64::try_from(whole).unwrap_or(u64::MAX)
+}
+
 /// Hands the datagram in a packet to the recorder, or counts why there is none.
-fn feed_packet(packet: &CapturedPacket<'_>, recorder: &mut Recorder) -> anyhow::Result<()> {
-    match udp_payload_in(packet.link, packet.bytes) {
-        Ok(datagram) => recorder.take(datagram),
+fn feed_packet(packet: &CapturedPacket<'_>, recorder: &mut Recorder) -> Result<(), AllocError> {
+    match udp_datagram_in(packet.link, packet.bytes) {
+        Ok(datagram) => recorder.take(&Arrival {
+            time: Some(microseconds(packet.ticks, packet.resolution)),
+            ports: Some((datagram.source_port, datagram.destination_port)),
+            bytes: datagram.payload,
+        }),
         Err(why) => {
             recorder.pass_over(why);
             Ok(())

@@ -1,26 +1,38 @@
-//! Records the streams of captures: `rtprecord CAPTURE.. [--sdp TEXT].. [--pt TYPE=CODEC/RATE].. [--hold-back N]
-//! [--held N] [--out FOLDER] [--list]`. A capture is a file of pcap, pcapng or rtpdump, or lines of hexadecimal;
-//! several are parts of one, in the order of their times. Each stream, an SSRC and a payload type, is listed, and
-//! written to a file that a player opens, named by both.
+//! Records the streams of captures: `rtprecord CAPTURE.. [OPTION]..`. A capture is a file of pcap, pcapng or rtpdump,
+//! or lines of hexadecimal; several are parts of one, in the order of their times. Each stream, an SSRC and a payload
+//! type, is listed, and written to a file that a player opens, named by both.
 //!
-//! The status is 0 where a stream was found; 1 where a capture or a session text can't be read, a file can't be
-//! written, or memory ran out; 2 where the arguments are wrong; 3 where no stream was found.
+//! The status is 0 if a stream was found; 1 if a capture or a session text can't be read, a file can't be written, or
+//! memory ran out; 2 if the arguments are wrong; 3 if no stream was found.
 #![tactic(auto)]
 
 mod arguments;
+mod av1;
+mod bits;
 mod files;
+mod found;
 mod gaps;
 mod input;
+mod layers;
+mod matroska;
+mod passed;
 mod recorder;
 mod report;
+mod reports;
+mod row;
 mod rows;
+mod sections;
+mod seen;
+mod sizes;
+mod source;
 mod stream;
+mod tracks;
+mod writing;
 
 use anyhow::bail;
 use arguments::{Arguments, command};
 use input::Input;
-use payload_core::may_hold;
-use recorder::Recorder;
+use recorder::{Limits, Recorder};
 use rows::{no_row, rows_of};
 use std::process::ExitCode;
 use std::{env, fs};
@@ -51,21 +63,20 @@ fn run_with(rt: &HostRuntime, words: &[&str]) -> anyhow::Result<u8> {
         Ok(matches) => matches,
         Err(fault) => return tell(rt, &fault),
     };
-    let Some(arguments) = Arguments::of(rt.alloc(), &matches)? else {
+    let arguments = match Arguments::of(rt.alloc(), &matches)? {
+        Ok(arguments) => arguments,
+        Err(wrong) => {
+            eprintln!(*rt; "rtprecord: {wrong}")?;
+            return Ok(2);
+        }
+    };
+    if let Some(text) = no_row(&arguments) {
         eprintln!(*rt;
-            "rtprecord: --hold-back takes a number of frames, and --held one of packets"
+            "rtprecord: no payload type: {text}; write it as 96=VP8/90000, a repair's as 97=96"
         )?;
         return Ok(2);
-    };
-    if !may_hold(arguments.held) {
-        eprintln!(*rt; "rtprecord: --held takes 4096 to 16384 packets")?;
-        return Ok(2);
     }
-    if let Some(text) = no_row(&arguments) {
-        eprintln!(*rt; "rtprecord: no payload type: {text}; write it as 96=VP8/90000")?;
-        return Ok(2);
-    }
-    record(rt, &arguments)
+    record(rt, arguments)
 }
 
 /// Tells what is wrong with the arguments, or the help.
@@ -81,19 +92,28 @@ fn take(rt: &HostRuntime, name: &str, recorder: &mut Recorder) -> anyhow::Result
         Err(fault) => bail!("{name}: {fault}"),
     };
     match Input::of(rt.alloc(), &file) {
-        Ok(input) => input.feed(recorder),
+        Ok(input) => Ok(input.feed(recorder)?),
         Err(fault) => bail!("{name}: {fault}"),
     }
 }
 
 /// Records the streams of the captures.
-fn record(rt: &HostRuntime, arguments: &Arguments) -> anyhow::Result<u8> {
-    let rows = rows_of(rt, arguments)?;
-    let mut recorder = Recorder::new(rt.alloc(), rows, arguments.hold_back, arguments.held);
+fn record(rt: &HostRuntime, arguments: Arguments) -> anyhow::Result<u8> {
+    let rows = rows_of(rt, &arguments)?;
+    let limits = Limits {
+        hold_back: arguments.hold_back,
+        held: arguments.held,
+        most_streams: arguments.most_streams,
+    };
+    let ports = arguments.ports.clone()?;
+    let mut recorder = Recorder::new(rt.alloc(), rows, limits, ports);
     for name in &arguments.captures {
         take(rt, name.as_str(), &mut recorder)?;
     }
-    recorder.finish()?;
-    report::print(rt, &recorder, arguments)?;
-    Ok(if recorder.streams.is_empty() { 3 } else { 0 })
+    recorder.finish();
+    if !report::print(rt, &recorder, &arguments)? {
+        return Ok(1);
+    }
+    let is_found = !recorder.streams.is_empty() || (arguments.is_list && !recorder.seen.is_empty());
+    Ok(if is_found { 0 } else { 3 })
 }

@@ -1,58 +1,54 @@
 //! Datagrams to their streams.
 
-use crate::rows::{Row, Rows};
-use crate::stream::{Source, Stream};
-use h26x_payload::Codec;
+use crate::found::Found;
+use crate::input::Arrival;
+use crate::passed::{NOTHING, Passed, count};
+use crate::reports::{SenderReport, sender_report};
+use crate::row::Row;
+use crate::rows::Rows;
+use crate::seen::{Seen, note};
+use crate::source::Source;
+use crate::stream::Stream;
+use h26x_payload::{Codec, SeqNo};
 use media_files::captures::{DatagramKind, PassedOver, kind_of};
 use payload_core::RedDecoder;
-use rtp_wire::{ExtensionMap, RtpHeader, Ssrc, unpad_payload};
-use std::alloc::Global;
+use rtp_wire::{ExtensionMap, RtpHeader, Ssrc, unpad_payload, wrapped_in};
+use std::alloc::{AllocError, Global};
 
-/// What was passed over.
+/// How much is held and recorded.
 #[derive(Clone, Copy)]
-pub(crate) struct Passed {
-    pub(crate) not_udp: u64,
-    pub(crate) fragments: u64,
-    pub(crate) cut: u64,
-    pub(crate) malformed: u64,
-    pub(crate) stun: u64,
-    pub(crate) dtls: u64,
-    pub(crate) rtcp: u64,
-    pub(crate) other: u64,
-    /// RTP of payload types that no row has.
-    pub(crate) unknown: u64,
+pub(crate) struct Limits {
+    pub(crate) hold_back: usize,
+    pub(crate) held: usize,
+    pub(crate) most_streams: usize,
 }
-
-/// Nothing was passed over.
-const NOTHING: Passed = Passed {
-    not_udp: 0,
-    fragments: 0,
-    cut: 0,
-    malformed: 0,
-    stun: 0,
-    dtls: 0,
-    rtcp: 0,
-    other: 0,
-    unknown: 0,
-};
 
 /// The streams of a capture.
 #[derive(Drop)]
 pub(crate) struct Recorder {
     alloc: Global,
     pub(crate) rows: Rows,
-    hold_back: usize,
-    held: usize,
+    limits: Limits,
+    /// The ports from or to which datagrams are taken; all if there are none.
+    ports: Vec<u16>,
     pub(crate) passed: Passed,
     /// How many bytes at the ends of captures are no packet.
     pub(crate) unread: usize,
     pub(crate) sources: Vec<Source>,
     pub(crate) streams: Vec<Stream>,
+    /// What is seen without a row.
+    pub(crate) seen: Vec<Seen>,
+    /// The first report of each sender.
+    pub(crate) reports: Vec<SenderReport>,
 }
 
-/// One more.
-fn count(number: &mut u64) {
-    *number = number.saturating_add(1);
+/// A packet that was taken: what its header says, and its number.
+#[derive(Clone, Copy)]
+struct Taken<'a> {
+    header: &'a RtpHeader,
+    seq_no: SeqNo,
+    port: Option<u16>,
+    time: Option<u64>,
 }
 
 /// The type and the payload of the primary block of a redundant payload (RFC 2198 3).
@@ -69,17 +65,19 @@ fn primary_of(payload: &[u8]) -> Option<(u8, &[u8])> {
 }
 
 impl Recorder {
-    /// A recorder that took nothing.
-    pub(crate) fn new(alloc: Global, rows: Rows, hold_back: usize, held: usize) -> Recorder {
+    /// A new recorder.
+    pub(crate) fn new(alloc: Global, rows: Rows, limits: Limits, ports: Vec<u16>) -> Recorder {
         Recorder {
             alloc,
             rows,
-            hold_back,
-            held,
+            limits,
+            ports,
             passed: NOTHING,
             unread: 0,
             sources: Vec::new(alloc),
             streams: Vec::new(alloc),
+            seen: Vec::new(alloc),
+            reports: Vec::new(alloc),
         }
     }
 
@@ -99,10 +97,14 @@ impl Recorder {
     }
 
     /// Takes a datagram.
-    pub(crate) fn take(&mut self, datagram: &[u8]) -> anyhow::Result<()> {
-        match kind_of(datagram) {
-            DatagramKind::Rtp => return self.take_rtp(datagram),
-            DatagramKind::Rtcp => count(&mut self.passed.rtcp),
+    pub(crate) fn take(&mut self, arrival: &Arrival<'_>) -> Result<(), AllocError> {
+        if !arrival.is_at(&self.ports) {
+            count(&mut self.passed.elsewhere);
+            return Ok(());
+        }
+        match kind_of(arrival.bytes) {
+            DatagramKind::Rtp => return self.take_rtp(arrival),
+            DatagramKind::Rtcp => return self.take_rtcp(arrival.bytes),
             DatagramKind::Stun => count(&mut self.passed.stun),
             DatagramKind::Dtls => count(&mut self.passed.dtls),
             _ => count(&mut self.passed.other),
@@ -110,91 +112,225 @@ impl Recorder {
         Ok(())
     }
 
+    /// Keeps the first report of each sender.
+    fn take_rtcp(&mut self, datagram: &[u8]) -> Result<(), AllocError> {
+        count(&mut self.passed.rtcp);
+        let Some(report) = sender_report(datagram) else {
+            return Ok(());
+        };
+        let is_known = self.reports.iter().any(|known| known.ssrc == report.ssrc);
+        if !is_known && self.reports.len() < self.limits.most_streams {
+            self.reports.push(report)?;
+        }
+        Ok(())
+    }
+
     /// Takes a packet of RTP, if a row has its type.
-    fn take_rtp(&mut self, datagram: &[u8]) -> anyhow::Result<()> {
-        let Some(header) = RtpHeader::parse(datagram, &ExtensionMap::empty()) else {
+    fn take_rtp(&mut self, arrival: &Arrival<'_>) -> Result<(), AllocError> {
+        let Some(header) = RtpHeader::parse(arrival.bytes, &ExtensionMap::empty()) else {
             count(&mut self.passed.other);
             return Ok(());
         };
-        let Some(row) = self.rows.row(header.payload_type.get()) else {
-            count(&mut self.passed.unknown);
-            return Ok(());
-        };
-        if matches!(row.codec, Codec::Rtx | Codec::Null | Codec::Unknown) {
-            count(&mut self.passed.unknown);
-            return Ok(());
-        }
-        self.take_packet(row, &header, datagram)
-    }
-
-    /// Takes a packet of a row: the payload without its padding, of redundant audio the primary block.
-    fn take_packet(&mut self, row: Row, header: &RtpHeader, datagram: &[u8]) -> anyhow::Result<()> {
-        let place = self.source_place(header.ssrc)?;
-        let Some(source) = self.sources.get_mut(place) else {
-            return Ok(());
-        };
-        let Some(seq_no) = source.receive(datagram) else {
-            return Ok(());
-        };
-        let behind = datagram.get(header.header_len..).unwrap_or(&[]);
-        let Some(payload) = unpad_payload(header.has_padding, behind) else {
-            source.damaged = source.damaged.saturating_add(1);
-            return Ok(());
-        };
-        if payload.is_empty() {
-            source.padding = source.padding.saturating_add(1);
-            return Ok(());
-        }
-        let found = if row.codec == Codec::Red {
-            primary_of(payload).and_then(|p| Some((self.rows.row(p.0)?, p.1)))
-        } else {
-            Some((row, payload))
-        };
-        match found {
-            Some((row, payload)) => {
-                let place = self.stream_place(header.ssrc, row)?;
-                match self.streams.get_mut(place) {
-                    Some(stream) => stream.push(seq_no, header, payload),
-                    None => Ok(()),
-                }
+        let pt = header.payload_type.get();
+        match self.rows.row(pt, arrival.port()) {
+            Some(row) if row.codec == Codec::Rtx => self.take_repair(row, &header, arrival),
+            Some(row) if !matches!(row.codec, Codec::Null | Codec::Unknown) => {
+                self.take_packet(row, &header, arrival)
             }
-            None => {
-                source.damaged = source.damaged.saturating_add(1);
+            _ => {
+                count(&mut self.passed.unknown);
+                let (ssrc, most) = (header.ssrc.get(), self.limits.most_streams);
+                if !note(&mut self.seen, most, ssrc, pt, arrival.port())? {
+                    count(&mut self.passed.too_many);
+                }
                 Ok(())
             }
         }
     }
 
-    /// Where the source of an SSRC is, which is made where there is none.
-    fn source_place(&mut self, ssrc: Ssrc) -> anyhow::Result<usize> {
-        for (place, source) in self.sources.iter().enumerate() {
-            if source.ssrc == ssrc {
-                return Ok(place);
-            }
-        }
-        self.sources.push(Source::new(ssrc))?;
-        Ok(self.sources.len().saturating_sub(1))
-    }
-
-    /// Where the stream of an SSRC and a row is, which is made where there is none.
-    fn stream_place(&mut self, ssrc: Ssrc, row: Row) -> anyhow::Result<usize> {
-        for (place, stream) in self.streams.iter().enumerate() {
-            if stream.ssrc == ssrc && stream.row.pt == row.pt {
-                return Ok(place);
-            }
-        }
-        let Some(stream) = Stream::new(self.alloc, ssrc, row, self.hold_back, self.held) else {
-            return Ok(self.streams.len());
+    /// Takes a packet of a row.
+    fn take_packet(
+        &mut self,
+        row: Row,
+        header: &RtpHeader,
+        arrival: &Arrival<'_>,
+    ) -> Result<(), AllocError> {
+        let port = row.ports.and_then(|_| arrival.port());
+        let Some(place) = self.source_place(header.ssrc, port)? else {
+            count(&mut self.passed.too_many);
+            return Ok(());
         };
-        self.streams.push(stream)?;
-        Ok(self.streams.len().saturating_sub(1))
+        let Some(source) = self.sources.get_mut(place) else {
+            return Ok(());
+        };
+        let Some(seq_no) = source.receive(arrival.bytes) else {
+            return Ok(());
+        };
+        let behind = arrival.bytes.get(header.header_len..).unwrap_or(&[]);
+        let Some(payload) = unpad_payload(header.has_padding, behind) else {
+            count(&mut source.damaged);
+            return Ok(());
+        };
+        if payload.is_empty() {
+            count(&mut source.padding);
+            return Ok(());
+        }
+        let taken = Taken {
+            header,
+            seq_no,
+            port,
+            time: arrival.time,
+        };
+        self.take_payload(place, row, &taken, payload)
     }
 
-    /// Hands out what is left, where nothing more will come.
-    pub(crate) fn finish(&mut self) -> anyhow::Result<()> {
-        for stream in &mut self.streams {
-            stream.drain()?;
+    /// Takes the payload of a packet of a source: of redundant audio the primary block.
+    fn take_payload(
+        &mut self,
+        place: usize,
+        row: Row,
+        taken: &Taken<'_>,
+        payload: &[u8],
+    ) -> Result<(), AllocError> {
+        let found = if row.codec == Codec::Red {
+            primary_of(payload).and_then(|p| Some((self.rows.row(p.0, taken.port)?, p.1)))
+        } else {
+            Some((row, payload))
+        };
+        let (Some((row, payload)), Some(source)) = (found, self.sources.get(place)) else {
+            return Ok(self.damage(place));
+        };
+        let ssrc = source.ssrc;
+        let Some(place) = self.stream_place(ssrc, taken.port, row)? else {
+            count(&mut self.passed.too_many);
+            return Ok(());
+        };
+        if let Some(stream) = self.streams.get_mut(place) {
+            stream.arrive(taken.time, taken.header.timestamp);
+            stream.push(taken.seq_no, taken.header, payload);
         }
         Ok(())
+    }
+
+    /// Counts a packet of a source that can't be read.
+    fn damage(&mut self, place: usize) {
+        if let Some(source) = self.sources.get_mut(place) {
+            count(&mut source.damaged);
+        }
+    }
+
+    /// Takes a packet of retransmissions as what it wraps (RFC 4588 4).
+    fn take_repair(
+        &mut self,
+        row: Row,
+        header: &RtpHeader,
+        arrival: &Arrival<'_>,
+    ) -> Result<(), AllocError> {
+        let behind = arrival.bytes.get(header.header_len..).unwrap_or(&[]);
+        let payload = unpad_payload(header.has_padding, behind).unwrap_or(&[]);
+        let Some((low, payload)) = wrapped_in(payload) else {
+            count(&mut self.passed.empty_repairs);
+            return Ok(());
+        };
+        let repaired = row.repairs.and_then(|pt| self.rows.row(pt, arrival.port()));
+        let Some(row) = repaired else {
+            count(&mut self.passed.strange_repairs);
+            return Ok(());
+        };
+        let port = row.ports.and_then(|_| arrival.port());
+        let Some(place) = self.repaired_place(header.ssrc, port, row.pt, low) else {
+            count(&mut self.passed.strange_repairs);
+            return Ok(());
+        };
+        let Some(source) = self.sources.get_mut(place) else {
+            return Ok(());
+        };
+        let Some(seq_no) = source.receive_repaired(low) else {
+            return Ok(());
+        };
+        let taken = Taken {
+            header,
+            seq_no,
+            port,
+            time: None,
+        };
+        self.take_payload(place, row, &taken, payload)
+    }
+
+    /// Where the source is that these are the repairs of: the one that a text groups them with, else the only one
+    /// with this type, else the only one of these that misses the number.
+    fn repaired_place(&self, ssrc: Ssrc, port: Option<u16>, pt: u8, low: u16) -> Option<usize> {
+        let grouped = self.rows.repaired_by(ssrc.get());
+        let mut with_type = Found::None;
+        let mut missing = Found::None;
+        for (place, source) in self.sources.iter().enumerate() {
+            if source.port != port {
+                continue;
+            }
+            if grouped == Some(source.ssrc.get()) {
+                return Some(place);
+            }
+            if grouped.is_none() && self.has_stream(source.ssrc, port, pt) {
+                with_type = with_type.and(place);
+                if source.misses(low) {
+                    missing = missing.and(place);
+                }
+            }
+        }
+        with_type.only().or(missing.only())
+    }
+
+    /// Whether a source has a stream of this type.
+    fn has_stream(&self, ssrc: Ssrc, port: Option<u16>, pt: u8) -> bool {
+        self.streams.iter().any(|stream| stream.ssrc == ssrc
+            && stream.port == port
+            && stream.row.pt == pt)
+    }
+
+    /// Where the source of an SSRC is, which is made if there is none; None if there are too many.
+    fn source_place(&mut self, ssrc: Ssrc, port: Option<u16>) -> Result<Option<usize>, AllocError> {
+        for (place, source) in self.sources.iter().enumerate() {
+            if source.ssrc == ssrc && source.port == port {
+                return Ok(Some(place));
+            }
+        }
+        let place = self.sources.len();
+        if place >= self.limits.most_streams {
+            return Ok(None);
+        }
+        self.sources.push(Source::new(ssrc, port))?;
+        Ok(Some(place))
+    }
+
+    /// Where the stream of a source and a row is, which is made if there is none; None if there are too many, or its
+    /// codec has no payload format.
+    fn stream_place(
+        &mut self,
+        ssrc: Ssrc,
+        port: Option<u16>,
+        row: Row,
+    ) -> Result<Option<usize>, AllocError> {
+        for (place, stream) in self.streams.iter().enumerate() {
+            if stream.ssrc == ssrc && stream.port == port && stream.row.pt == row.pt {
+                return Ok(Some(place));
+            }
+        }
+        let place = self.streams.len();
+        if place >= self.limits.most_streams {
+            return Ok(None);
+        }
+        let (hold_back, held) = (self.limits.hold_back, self.limits.held);
+        let Some(stream) = Stream::new(self.alloc, ssrc, port, row, hold_back, held) else {
+            return Ok(None);
+        };
+        self.streams.push(stream)?;
+        Ok(Some(place))
+    }
+
+    /// Hands out what is left, if nothing more will come.
+    pub(crate) fn finish(&mut self) {
+        for stream in &mut self.streams {
+            stream.drain();
+        }
     }
 }

@@ -2,26 +2,40 @@
 
 use crate::arguments::Arguments;
 use crate::files::{ending_of, file_of};
+use crate::gaps::Silence;
+use crate::matroska::recording_of;
 use crate::recorder::Recorder;
-use crate::stream::{Source, Stream};
+use crate::seen::Seen;
+use crate::source::Source;
+use crate::stream::Stream;
+use crate::writing::{sum_of, write_whole};
+use std::alloc::{AllocError, Global};
 use std::{fs, io};
 
-/// Writes the file of a stream, and returns its name, if its codec has one.
+/// The name of a stream's file, without its folder: its SSRC, the port if it is meant for one alone, and its type.
+fn name_of(alloc: Global, stream: &Stream, ending: &str) -> Result<String, AllocError> {
+    let (ssrc, pt) = (stream.ssrc.get(), stream.row.pt);
+    match stream.port {
+        Some(port) => format!(in alloc; "{ssrc:08x}-{port}-{pt}.{ending}"),
+        None => format!(in alloc; "{ssrc:08x}-{pt}.{ending}"),
+    }
+}
+
+/// Writes the file of a stream, and prints its name, length and sum.
 fn write_file(
     rt: &HostRuntime,
     stream: &Stream,
-    arguments: &Arguments,
-) -> anyhow::Result<Option<String>> {
-    let Some(ending) = ending_of(stream.row.codec) else {
-        return Ok(None);
+    name: &str,
+    silence: &mut Silence,
+    is_forced: bool,
+) -> anyhow::Result<()> {
+    let Some(bytes) = file_of(rt.alloc(), stream, silence)? else {
+        return Ok(());
     };
-    let Some(bytes) = file_of(rt.alloc(), stream)? else {
-        return Ok(None);
-    };
-    let (out, ssrc, pt) = (arguments.out.as_str(), stream.ssrc.get(), stream.row.pt);
-    let name = format!(in rt.alloc(); "{out}/{ssrc:08x}-{pt}.{ending}")?;
-    fs::write(rt, name.as_str(), bytes.as_slice())?;
-    Ok(Some(name))
+    write_whole(rt, name, &bytes, is_forced)?;
+    let (len, sum) = (bytes.len(), sum_of(rt, &bytes)?);
+    println!(*rt; "    {name}: {len} bytes, SHA-256 {sum}")?;
+    Ok(())
 }
 
 /// How many milliseconds lie between the first unit and the last.
@@ -38,14 +52,18 @@ fn duration(stream: &Stream) -> u64 {
 /// Prints what came of an SSRC.
 fn print_source(rt: &HostRuntime, source: &Source) -> io::Result<()> {
     let (ssrc, lost) = (source.ssrc.get(), source.lost());
+    print!(*rt; "SSRC {ssrc:08x}")?;
+    if let Some(port) = source.port {
+        print!(*rt; " to port {port}")?;
+    }
     println!(*rt;
-        "SSRC {ssrc:08x}: {} taken, {lost} lost, {} late, {} damaged, {} of padding alone",
-        source.taken, source.late, source.damaged, source.padding
+        ": {} taken, {} of them repairs, {lost} lost, {} late, {} damaged, {} of padding alone",
+        source.taken, source.repaired, source.late, source.damaged, source.padding
     )
 }
 
-/// Prints what came of a stream, and writes its file.
-fn print_stream(rt: &HostRuntime, stream: &Stream, arguments: &Arguments) -> anyhow::Result<()> {
+/// Prints what came of a stream.
+fn print_counts(rt: &HostRuntime, stream: &Stream) -> io::Result<()> {
     let (row, units) = (stream.row, stream.units.len());
     println!(*rt;
         "  type {} {}/{}: {} datagrams, {units} units, {} keyframes, {} unreadable, {} ms",
@@ -56,18 +74,101 @@ fn print_stream(rt: &HostRuntime, stream: &Stream, arguments: &Arguments) -> any
         stream.keyframes,
         stream.faults,
         duration(stream)
-    )?;
-    if arguments.is_list || units == 0 {
+    )
+}
+
+/// Prints when the packets of a stream came, if the capture says it.
+fn print_times(rt: &HostRuntime, stream: &Stream) -> io::Result<()> {
+    let (Some((first, _)), Some(last)) = (stream.began, stream.ended) else {
         return Ok(());
+    };
+    println!(*rt;
+        "    from {}.{:06} to {}.{:06} s by the capture's clock",
+        first / 1_000_000,
+        first % 1_000_000,
+        last / 1_000_000,
+        last % 1_000_000
+    )
+}
+
+/// Prints what came of a stream, and writes its file; returns whether that is as it should be.
+fn print_stream(
+    rt: &HostRuntime,
+    stream: &Stream,
+    arguments: &Arguments,
+    silence: &mut Silence,
+) -> anyhow::Result<bool> {
+    print_counts(rt, stream)?;
+    print_times(rt, stream)?;
+    if stream.is_cut {
+        println!(*rt; "    memory ran out, and later units are left out")?;
     }
-    match write_file(rt, stream, arguments)? {
-        Some(name) => println!(*rt; "    {name}")?,
-        None => println!(*rt; "    no file: none is known for this codec")?,
+    if arguments.is_list || stream.units.is_empty() {
+        return Ok(!stream.is_cut);
+    }
+    let Some(ending) = ending_of(stream.row.codec) else {
+        println!(*rt; "    no file: none is known for this codec")?;
+        return Ok(!stream.is_cut);
+    };
+    let (out, name) = (arguments.out.as_str(), name_of(rt.alloc(), stream, ending)?);
+    let name = format!(in rt.alloc(); "{out}/{name}")?;
+    if let Err(fault) = write_file(rt, stream, &name, silence, arguments.is_forced) {
+        println!(*rt; "    no file {name}: {fault:#}")?;
+        return Ok(false);
+    }
+    Ok(!stream.is_cut)
+}
+
+/// Writes the Matroska file of all streams, if it is asked for; returns whether that is as it should be.
+fn print_mkv(rt: &HostRuntime, recorder: &Recorder, arguments: &Arguments) -> anyhow::Result<bool> {
+    let Some(name) = &arguments.mkv else {
+        return Ok(true);
+    };
+    if arguments.is_list || recorder.streams.is_empty() {
+        return Ok(true);
+    }
+    match write_mkv(rt, recorder, name, arguments.is_forced) {
+        Ok(()) => Ok(true),
+        Err(fault) => {
+            println!(*rt; "no file {name}: {fault:#}")?;
+            Ok(false)
+        }
+    }
+}
+
+/// Writes the Matroska file of all streams, and prints its length and sum.
+fn write_mkv(
+    rt: &HostRuntime,
+    recorder: &Recorder,
+    name: &str,
+    is_forced: bool,
+) -> anyhow::Result<()> {
+    let file = recording_of(rt.alloc(), &recorder.streams, &recorder.reports)?;
+    write_whole(rt, name, &file.bytes, is_forced)?;
+    let (len, sum) = (file.bytes.len(), sum_of(rt, &file.bytes)?);
+    println!(*rt; "{name}: {len} bytes, SHA-256 {sum}")?;
+    for ssrc in &file.left_out {
+        println!(*rt;
+            "  without SSRC {ssrc:08x}: its codec has no track, or its units lack what a track needs"
+        )?;
     }
     Ok(())
 }
 
-/// Prints what was passed over, where something was.
+/// Prints streams that are seen without a row.
+fn print_seen(rt: &HostRuntime, seen: &[Seen]) -> io::Result<()> {
+    for one in seen {
+        let (ssrc, pt, datagrams) = (one.ssrc, one.pt, one.datagrams);
+        print!(*rt; "SSRC {ssrc:08x}")?;
+        if let Some(port) = one.port {
+            print!(*rt; " to port {port}")?;
+        }
+        println!(*rt; ": {datagrams} datagrams of type {pt}, which no row says")?;
+    }
+    Ok(())
+}
+
+/// Prints what was passed over.
 fn print_passed(rt: &HostRuntime, recorder: &Recorder) -> io::Result<()> {
     let p = recorder.passed;
     println!(*rt;
@@ -78,6 +179,19 @@ fn print_passed(rt: &HostRuntime, recorder: &Recorder) -> io::Result<()> {
         "datagrams passed over: {} STUN, {} DTLS, {} RTCP, {} of types without a row, {} others",
         p.stun, p.dtls, p.rtcp, p.unknown, p.other
     )?;
+    if p.elsewhere > 0 {
+        println!(*rt; "datagrams of other ports: {}", p.elsewhere)?;
+    }
+    if p.empty_repairs > 0 || p.strange_repairs > 0 {
+        let (empty, strange) = (p.empty_repairs, p.strange_repairs);
+        println!(*rt; "repairs passed over: {empty} of padding, {strange} of no known stream")?;
+    }
+    if p.too_many > 0 {
+        println!(*rt;
+            "datagrams of more streams than are recorded: {}",
+            p.too_many
+        )?;
+    }
     if recorder.unread > 0 {
         println!(*rt;
             "a capture ends within a packet: {} bytes are left",
@@ -87,7 +201,7 @@ fn print_passed(rt: &HostRuntime, recorder: &Recorder) -> io::Result<()> {
     Ok(())
 }
 
-/// Whether nearly all that came can't be read, as where it is encrypted.
+/// Whether nearly everything is unreadable, as encrypted media is.
 fn is_unreadable(recorder: &Recorder) -> bool {
     let (mut bad, mut all) = (0u64, 0u64);
     for source in &recorder.sources {
@@ -102,9 +216,9 @@ fn is_unreadable(recorder: &Recorder) -> bool {
 
 /// Says why nearly nothing may be read.
 fn tell_unreadable(rt: &HostRuntime, recorder: &Recorder) -> io::Result<()> {
-    if recorder.rows.has_fingerprint {
+    if recorder.rows.is_secure {
         return eprintln!(*rt;
-            "nearly nothing can be read, and a text has a fingerprint: the capture looks encrypted"
+            "nearly nothing can be read, and a text says that it is encrypted: the capture looks so"
         );
     }
     eprintln!(*rt;
@@ -112,26 +226,36 @@ fn tell_unreadable(rt: &HostRuntime, recorder: &Recorder) -> io::Result<()> {
     )
 }
 
-/// Prints each source and its streams, and writes the streams' files.
+/// Prints each source and its streams, and writes the streams' files; returns whether all are as they should be.
 pub(crate) fn print(
     rt: &HostRuntime,
     recorder: &Recorder,
     arguments: &Arguments,
-) -> anyhow::Result<()> {
+) -> anyhow::Result<bool> {
     if !arguments.is_list {
         fs::create_dir_all(rt, arguments.out.as_str())?;
     }
+    let mut silence = Silence::of(arguments.longest_gap, arguments.most_silence);
+    let mut is_whole = true;
     for source in &recorder.sources {
         print_source(rt, source)?;
         for stream in &recorder.streams {
-            if stream.ssrc == source.ssrc {
-                print_stream(rt, stream, arguments)?;
+            if stream.ssrc == source.ssrc && stream.port == source.port {
+                is_whole = print_stream(rt, stream, arguments, &mut silence)? && is_whole;
             }
         }
     }
+    is_whole = print_mkv(rt, recorder, arguments)? && is_whole;
+    print_seen(rt, &recorder.seen)?;
     print_passed(rt, recorder)?;
+    if silence.shortened > 0 {
+        println!(*rt;
+            "gaps of sound that are filled in part: {}",
+            silence.shortened
+        )?;
+    }
     if is_unreadable(recorder) {
         tell_unreadable(rt, recorder)?;
     }
-    Ok(())
+    Ok(is_whole)
 }

@@ -1,104 +1,215 @@
 //! Which payload types there are.
 
 use crate::arguments::Arguments;
+use crate::row::Row;
+use crate::sections::{
+    MediaHead, Ports, SessionText, any_begins, as_browsers_write, cut, head_of, is_refused,
+    ports_of, repaired_pair,
+};
 use anyhow::bail;
-use h26x_payload::{Codec, CodecDepacketizer, Frequency, NotBoxed};
-use sdp_formats::{MediaLine, PayloadParams, RtpParams, SdpOffer};
-use std::alloc::Global;
-use std::fs;
+use sdp_formats::{RtpParams, SdpError, SdpOffer};
+use std::alloc::{AllocError, Global};
+use std::{fs, io};
 
-/// A payload type.
-#[derive(Clone, Copy, Drop)]
-pub(crate) struct Row {
-    pub(crate) pt: u8,
-    pub(crate) codec: Codec,
-    /// Ticks a second of its timestamps.
-    pub(crate) rate: Frequency,
-    pub(crate) channels: u8,
-    is_octet_aligned: bool,
-    sprop_max_don_diff: Option<u16>,
-}
-
-/// All payload types, and whether a text has a fingerprint, as one of a call that is encrypted.
+/// All payload types, which streams have which repairs, and what says that media is encrypted.
 #[derive(Drop)]
 pub(crate) struct Rows {
+    /// What the arguments say, which counts more than what a text says.
+    given: Vec<Row>,
     rows: Vec<Row>,
-    pub(crate) has_fingerprint: bool,
+    /// The SSRCs of a stream and of its repairs.
+    pairs: Vec<(u32, u32)>,
+    /// Whether a text has a fingerprint or a profile of encrypted media.
+    pub(crate) is_secure: bool,
 }
 
-impl Row {
-    /// The row that an argument says: `TYPE=CODEC/RATE` or `TYPE=CODEC/RATE/CHANNELS`, and behind either
-    /// `;octet-align=1` for AMR-WB in that layout.
-    fn of(text: &str) -> Option<Row> {
-        let (text, is_octet_aligned) = match text.strip_suffix(";octet-align=1") {
-            Some(front) => (front, true),
-            None => (text, false),
-        };
-        let (pt, spec) = text.split_once('=')?;
-        let (name, numbers) = spec.split_once('/')?;
-        let (rate, channels) = numbers.split_once('/').unwrap_or((numbers, "1"));
-        let pt = pt.parse::<u8>().ok()?;
-        let codec = Codec::from(name);
-        if pt > 127 || codec == Codec::Unknown {
-            return None;
-        }
-        Some(Row {
-            pt,
-            codec,
-            rate: Frequency::new(rate.parse::<u32>().ok()?)?,
-            channels: channels.parse::<u8>().ok()?,
-            is_octet_aligned,
-            sprop_max_don_diff: None,
-        })
-    }
-
-    /// The row of a section.
-    fn of_params(params: &PayloadParams) -> Row {
-        let spec = params.spec();
-        Row {
-            pt: params.pt().get(),
-            codec: spec.codec,
-            rate: spec.rtp_clock_rate(),
-            channels: spec.channels.unwrap_or(1),
-            is_octet_aligned: spec.format.octet_align.unwrap_or(false),
-            sprop_max_don_diff: spec.format.sprop_max_don_diff,
+/// The last row of a type on a port.
+fn on_port(rows: &[Row], pt: u8, port: u16) -> Option<Row> {
+    for row in rows.iter().rev() {
+        if let Some(ports) = row.ports {
+            if row.pt == pt && ports.has(port) {
+                return Some(*row);
+            }
         }
     }
+    None
+}
 
-    /// A depacketizer of the codec; None where it has no payload format.
-    pub(crate) fn depacketizer(&self, alloc: Global) -> Option<CodecDepacketizer<NotBoxed>> {
-        let mut depacketizer = CodecDepacketizer::<NotBoxed>::new(alloc, self.codec)?;
-        depacketizer.configure_for(
-            Some(self.is_octet_aligned),
-            self.sprop_max_don_diff,
-            self.rate,
-        );
-        Some(depacketizer)
+/// The last row of a type on any port.
+fn anywhere(rows: &[Row], pt: u8) -> Option<Row> {
+    for row in rows.iter().rev() {
+        if row.pt == pt && row.ports.is_none() {
+            return Some(*row);
+        }
     }
+    None
+}
+
+/// The row of a type that is meant on other ports, if all that are meant there read a packet alike.
+fn elsewhere(rows: &[Row], pt: u8) -> Option<Row> {
+    let mut found: Option<Row> = None;
+    for row in rows {
+        if row.pt != pt {
+            continue;
+        }
+        if let Some(other) = found {
+            if !row.is_like(&other) {
+                return None;
+            }
+        }
+        found = Some(row.on_any_port());
+    }
+    found
+}
+
+/// The row of a type for a packet to this port, if it is known.
+fn row_among(rows: &[Row], pt: u8, port: Option<u16>) -> Option<Row> {
+    if let Some(port) = port {
+        if let Some(row) = on_port(rows, pt, port) {
+            return Some(row);
+        }
+    }
+    if let Some(row) = anywhere(rows, pt) {
+        return Some(row);
+    }
+    if is_meant(rows, port) {
+        return None;
+    }
+    elsewhere(rows, pt)
+}
+
+/// Whether a row is meant on this port.
+fn is_meant(rows: &[Row], port: Option<u16>) -> bool {
+    let Some(port) = port else {
+        return false;
+    };
+    rows.iter().any(|row| match row.ports {
+        Some(ports) => ports.has(port),
+        None => false,
+    })
 }
 
 impl Rows {
-    /// The row of a payload type: the last one that was said.
-    pub(crate) fn row(&self, pt: u8) -> Option<Row> {
-        for row in self.rows.iter().rev() {
-            if row.pt == pt {
-                return Some(*row);
+    /// The row of a payload type for a packet to this port, if it is known: the last one that the arguments say, then
+    /// the last one that a text says for the port, for any port, or for other ports alone, if these agree; and last
+    /// that of a static type.
+    pub(crate) fn row(&self, pt: u8, port: Option<u16>) -> Option<Row> {
+        if let Some(row) = row_among(&self.given, pt, port) {
+            return Some(row);
+        }
+        if let Some(row) = row_among(&self.rows, pt, port) {
+            return Some(row);
+        }
+        Row::of_static(pt)
+    }
+
+    /// The stream that a text says these are the repairs of.
+    pub(crate) fn repaired_by(&self, repairs: u32) -> Option<u32> {
+        for pair in self.pairs.iter().rev() {
+            if pair.1 == repairs {
+                return Some(pair.0);
             }
         }
         None
     }
 
-    /// Takes the rows of a section.
-    fn take_section(&mut self, alloc: Global, section: &MediaLine) -> anyhow::Result<()> {
+    /// Takes the rows of a section, written as browsers write it.
+    fn take_rows(
+        &mut self,
+        alloc: Global,
+        text: &str,
+        ports: Option<Ports>,
+    ) -> Result<bool, SdpError> {
+        let sdp = SdpOffer::from_sdp_string(alloc, text)?;
+        let Some(section) = sdp.media_lines.first() else {
+            return Ok(false);
+        };
+        let mut any = false;
         for params in &section.rtp_params(alloc)? {
-            let row = Row::of_params(params);
+            let row = Row::of_params(params, ports);
+            any = true;
             self.rows.push(row)?;
             if let Some(red) = params.red() {
-                self.rows.push(Row {
-                    pt: red.get(),
-                    codec: Codec::Red,
-                    ..row
-                })?;
+                self.rows.push(row.as_redundant(red.get()))?;
+            }
+            if let Some(resend) = params.resend() {
+                self.rows.push(Row::repairing(resend.get(), row.pt, ports))?;
+            }
+        }
+        Ok(any)
+    }
+
+    /// Takes which streams have which repairs.
+    fn take_pairs(&mut self, section: &[&str]) -> Result<(), AllocError> {
+        for line in section {
+            if let Some(pair) = repaired_pair(line) {
+                self.pairs.push(pair)?;
+            }
+        }
+        Ok(())
+    }
+
+    /// Takes a section; or why it can't be read.
+    fn take_section(
+        &mut self,
+        alloc: Global,
+        session: &[&str],
+        section: &[&str],
+    ) -> anyhow::Result<Option<&'static str>> {
+        let Some(head) = section.first().and_then(|line| head_of(*line)) else {
+            return Ok(Some("its line can't be read"));
+        };
+        if head.kind == "application" || is_refused(&head, session, section) {
+            return Ok(None);
+        }
+        if !head.is_media() {
+            return Ok(Some("it is of neither audio nor video"));
+        }
+        if !head.is_rtp() {
+            return Ok(Some("its profile isn't RTP over UDP"));
+        }
+        self.take_media(alloc, &head, session, section)
+    }
+
+    /// Takes a section of audio or video over RTP; or why it can't be read.
+    fn take_media(
+        &mut self,
+        alloc: Global,
+        head: &MediaHead<'_>,
+        session: &[&str],
+        section: &[&str],
+    ) -> anyhow::Result<Option<&'static str>> {
+        if head.is_secure() || any_begins(section, "a=fingerprint:") {
+            self.is_secure = true;
+        }
+        self.take_pairs(section)?;
+        let text = as_browsers_write(alloc, head, section)?;
+        let ports = ports_of(head, session, section);
+        match self.take_rows(alloc, &text, ports) {
+            Ok(true) => Ok(None),
+            Ok(false) => Ok(Some("none of its payload types is known")),
+            Err(SdpError::Memory) => bail!("out of memory"),
+            Err(_) => Ok(Some("its payload types can't be read")),
+        }
+    }
+
+    /// Takes the sections of a text, and tells those that can't be read.
+    fn take_sections(
+        &mut self,
+        rt: &HostRuntime,
+        name: &str,
+        text: &SessionText<'_>,
+    ) -> anyhow::Result<()> {
+        let Some((session, sections)) = text.parts.split_first() else {
+            return Ok(());
+        };
+        if any_begins(session, "a=fingerprint:") {
+            self.is_secure = true;
+        }
+        for section in sections {
+            let why = self.take_section(rt.alloc(), session, section)?;
+            if let (Some(why), Some(line)) = (why, section.first()) {
+                eprintln!(*rt; "rtprecord: {name}: a section is passed over, as {why}: {line}")?;
             }
         }
         Ok(())
@@ -110,40 +221,53 @@ impl Rows {
             Ok(text) => text,
             Err(fault) => bail!("{name}: {fault}"),
         };
-        let sdp = match SdpOffer::from_sdp_string(rt.alloc(), text.as_str()) {
-            Ok(sdp) => sdp,
-            Err(fault) => bail!("{name}: {fault}"),
+        let Some(text) = cut(rt.alloc(), &text)? else {
+            bail!("{name}: no line begins with v=, as a session text does")
         };
-        for section in sdp.media_lines.iter() {
-            self.take_section(rt.alloc(), section)?;
-        }
-        if sdp.fingerprint().is_some() {
-            self.has_fingerprint = true;
-        }
-        Ok(())
+        tell_passed_over(rt, name, text.passed_over)?;
+        self.take_sections(rt, name, &text)
     }
+}
+
+/// Tells how many lines stand before a session text.
+fn tell_passed_over(rt: &HostRuntime, name: &str, lines: usize) -> io::Result<()> {
+    if lines == 0 {
+        return Ok(());
+    }
+    eprintln!(*rt; "rtprecord: {name}: lines before v=, which are passed over: {lines}")
 }
 
 /// The first argument that should say a row and says none.
 pub(crate) fn no_row(arguments: &Arguments) -> Option<&String> {
+    let is_none = |text: &&String| Row::of(text.as_str()).is_none();
+    if let Some(text) = arguments.rows.iter().find(is_none) {
+        return Some(text);
+    }
     arguments
-        .rows
+        .repairs
         .iter()
-        .find(|text| Row::of(text.as_str()).is_none())
+        .find(|text| Row::of_repairs(text.as_str()).is_none())
 }
 
-/// The rows of the session texts, in their order, and behind them those of the arguments.
+/// The rows of the texts, in order, and those of the arguments.
 pub(crate) fn rows_of(rt: &HostRuntime, arguments: &Arguments) -> anyhow::Result<Rows> {
     let mut rows = Rows {
+        given: Vec::new(rt.alloc()),
         rows: Vec::new(rt.alloc()),
-        has_fingerprint: false,
+        pairs: Vec::new(rt.alloc()),
+        is_secure: false,
     };
     for name in &arguments.texts {
         rows.take_text(rt, name.as_str())?;
     }
     for text in &arguments.rows {
         if let Some(row) = Row::of(text.as_str()) {
-            rows.rows.push(row)?;
+            rows.given.push(row)?;
+        }
+    }
+    for text in &arguments.repairs {
+        if let Some(row) = Row::of_repairs(text.as_str()) {
+            rows.given.push(row)?;
         }
     }
     Ok(rows)

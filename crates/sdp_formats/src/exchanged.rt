@@ -5,8 +5,8 @@ ghost use Rattle.std.specs.String.{string_bytes};
 ghost use Rattle.sdp_formats_data.specs.PrintedSession.{sdp_text};
 ghost use Rattle.sdp_formats_reader.specs.ReaderErrors.{ReadsText};
 
-use sdp_formats_data::Sdp;
-use sdp_formats_reader::{SdpError, sdp_parser};
+use sdp_formats_data::{Sdp, SdpError};
+use sdp_formats_reader::sdp_parser;
 use std::alloc::{AllocError, Global};
 use std::fmt;
 use std::marker::Model;
@@ -18,7 +18,7 @@ pub struct SdpOffer {
     sdp: Sdp,
 }
 
-/// Written by hand so that crates that drop this type need no proof about its fields.
+/// Written by hand, so that crates that drop this type need no proof about its fields.
 impl Drop for SdpOffer {
     fn drop(self) {
         let SdpOffer { sdp: _sdp } = self;
@@ -103,7 +103,7 @@ pub struct SdpAnswer {
     sdp: Sdp,
 }
 
-/// Written by hand so that crates that drop this type need no proof about its fields.
+/// Written by hand, so that crates that drop this type need no proof about its fields.
 impl Drop for SdpAnswer {
     fn drop(self) {
         let SdpAnswer { sdp: _sdp } = self;

@@ -2,10 +2,10 @@
 use Rattle.std.proofs.Common.{◌≡◌, ◌↔◌, Bool, true, false, IsTrue, refl, ap, subst, sym, true≢false}
 use Rattle.std.proofs.lemmas.Bool.{eqb-true}
 use Rattle.std.specs.Cmp.Lexicographic.{pointwise}
-use Rattle.rtp_wire_extensions.specs.contracts.extension.ExtensionPartialEq.TheImpl as extensions
-use Rattle.rtp_wire_values.specs.contracts.names.MidPartialEq.TheImpl as mids
-use Rattle.rtp_wire_values.specs.contracts.numbers.PtPartialEq.TheImpl as types
-use Rattle.rtp_wire_values.specs.contracts.numbers.SsrcPartialEq.TheImpl as sources
+use Rattle.rtp_wire.specs.contracts.extension.ExtensionPartialEq.TheImpl as extensions
+use Rattle.rtp_wire.specs.contracts.names.MidPartialEq.TheImpl as mids
+use Rattle.rtp_wire.specs.contracts.numbers.PtPartialEq.TheImpl as types
+use Rattle.rtp_wire.specs.contracts.numbers.SsrcPartialEq.TheImpl as sources
 use Rattle.sdp_formats_grammar.specs.contracts.text.TextPartialEq.TheImpl as texts
 use Rattle.sdp_formats_values.specs.contracts.candidate.CandidatePartialEq.TheImpl as candidates
 use Rattle.sdp_formats_values.specs.contracts.fingerprint.FingerprintPartialEq.TheImpl as fingerprints

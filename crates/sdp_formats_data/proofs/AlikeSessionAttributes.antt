@@ -1,7 +1,7 @@
 -- Attributes of sessions that compare as equal are the same.
 use Rattle.std.proofs.Common.{◌≡◌, Bool, true, false, IsTrue, refl, ap, subst, sym, true≢false}
 use Rattle.std.specs.Cmp.Lexicographic.{pointwise}
-use Rattle.rtp_wire_values.specs.contracts.names.MidPartialEq.TheImpl as mids
+use Rattle.rtp_wire.specs.contracts.names.MidPartialEq.TheImpl as mids
 use Rattle.sdp_formats_grammar.specs.contracts.text.TextPartialEq.TheImpl as texts
 use Rattle.sdp_formats_values.specs.contracts.candidate.CandidatePartialEq.TheImpl as candidates
 use Rattle.sdp_formats_values.specs.contracts.fingerprint.FingerprintPartialEq.TheImpl as fingerprints

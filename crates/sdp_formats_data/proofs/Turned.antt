@@ -6,8 +6,8 @@ use Rattle.std.proofs.lemmas.Grind.{common_steps}
 use Rattle.std.proofs.lemmas.List.{set_past}
 use Rattle.std.specs.List.{list_any, position, position_or_len}
 use Rattle.std.specs.Option.{option_or, unwrap_or}
-use Rattle.rtp_wire.specs.declared.Direction.{Direction}
-use Rattle.rtp_wire.specs.declared.Direction.TheVariants as way
+use Rattle.rtp_wire.specs.declared.direction.Direction.{Direction}
+use Rattle.rtp_wire.specs.declared.direction.Direction.TheVariants as way
 use Rattle.sdp_formats_data.specs.Directions.{directed, gives_direction}
 use Rattle.sdp_formats_data.specs.Lookups.{direction_in, direction_of, first_of}
 use Rattle.sdp_formats_data.specs.Media.{direction_attribute}

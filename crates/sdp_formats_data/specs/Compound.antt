@@ -1,4 +1,4 @@
--- Kinds of attributes of a section that hold several values.
+-- Media-level attributes that hold several values.
 use Rattle.std.specs.Prelude.{Bool, true, false}
 use Rattle.sdp_formats_data.specs.declared.media.MediaAttribute.{MediaAttribute}
 use Rattle.sdp_formats_data.specs.declared.media.MediaAttribute.TheVariants as a
@@ -14,7 +14,7 @@ is_compound (a.SsrcGroup semantics ssrcs) = true
 is_compound (a.Ssrc ssrc attr value) = true
 is_compound _ = false
 
--- The kinds that are about sources (RFC 5576).
+-- Attributes about sources (RFC 5576).
 unfoldable pub is_source : MediaAttribute → Bool
 is_source (a.SsrcGroup semantics ssrcs) = true
 is_source (a.Ssrc ssrc attr value) = true

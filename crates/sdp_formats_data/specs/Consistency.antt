@@ -1,4 +1,4 @@
--- Faults of a section.
+-- Inconsistencies of a section.
 use Rattle.std.specs.Prelude.{ℕ, ◌==◌, Bool, true, false, not, ◌&&◌, ◌||◌, List, Option, Some, None, is_none}
 use Rattle.std.specs.Prelude.{count_by, nat_lt, length, if◌then◌else◌}
 use Rattle.std.specs.List.{list_all, list_any}
@@ -35,23 +35,23 @@ abbrev pub maps_type : ℕ → MediaAttribute → Bool
 maps_type pt (RtpMap mapped value) = mapped == pt
 maps_type pt _ = false
 
--- A payload type with a meaning of its own: G.711, G.722 and comfort noise (RFC 3551 6).
+-- A static payload type: G.711, G.722 or comfort noise (RFC 3551 6).
 abbrev pub is_static : ℕ → Bool
 is_static pt = (pt == 0) || ((pt == 8) || ((pt == 9) || (pt == 13)))
 
--- Mapped once, or not at all where it has a meaning of its own.
+-- Mapped exactly once; or not at all, if it is a static payload type.
 abbrev pub is_mapped : List MediaAttribute → ℕ → Bool
 is_mapped attrs pt = (count_by (maps_type pt) attrs == 1) || ((count_by (maps_type pt) attrs == 0) && is_static pt)
 
 abbrev pub are_mapped : List MediaAttribute → List ℕ → Bool
 are_mapped attrs pts = list_all (is_mapped attrs) pts
 
--- A parameter that names another type than this one as retransmitted (RFC 4588 8.6).
+-- An `apt` parameter that names another payload type than this one (RFC 4588 8.6).
 abbrev pub apt_differs : ℕ → FormatParam → Bool
 apt_differs apt (Apt other) = not (other == apt)
 apt_differs apt _ = false
 
--- A line that says nothing else of what a payload type retransmits.
+-- A line that doesn't give this payload type another `apt`.
 abbrev pub attribute_agrees : ℕ → ℕ → MediaAttribute → Bool
 attribute_agrees pt apt (Fmtp other values) = not (other == pt) || not (list_any (apt_differs apt) values)
 attribute_agrees pt apt _ = true
@@ -67,7 +67,7 @@ abbrev pub gives_apt : List MediaAttribute → MediaAttribute → Bool
 gives_apt attrs (Fmtp pt values) = list_all (values_agree attrs pt) values
 gives_apt attrs _ = true
 
--- Each payload type retransmits one other at most.
+-- Every RTX payload type has at most one `apt`.
 abbrev pub apts_agree : List MediaAttribute → Bool
 apts_agree attrs = list_all (gives_apt attrs) attrs
 
@@ -83,7 +83,7 @@ later_fault_of m =
     else if (is_rtp m.proto && (length m.pts == 0)) && not m.disabled then Some fault.NoPayloadType
     else last_fault_of m
 
--- The first fault of a section, in this order.
+-- The first inconsistency of a section, in this order.
 abbrev pub fault_of : MediaLine → Option Inconsistency
 fault_of m =
     if count_of counted.Mid m == 0 then Some fault.MissingMid

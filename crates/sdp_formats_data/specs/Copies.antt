@@ -1,4 +1,4 @@
--- Attributes that hold one text, with another text.
+-- The same attribute with another text.
 use Rattle.std.specs.Prelude.{ℕ, List}
 use Rattle.sdp_formats_data.specs.declared.media.MediaAttribute.{MediaAttribute}
 use Rattle.sdp_formats_data.specs.declared.media.MediaAttribute.TheVariants as a

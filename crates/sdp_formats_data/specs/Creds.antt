@@ -1,4 +1,4 @@
--- Credentials: the name and the password.
+-- ICE credentials: ufrag and password.
 use Rattle.std.specs.Prelude.{ℕ, List, Option, Some, None}
 use Rattle.std.specs.Borrow.{Bor}
 

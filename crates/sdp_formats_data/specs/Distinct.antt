@@ -2,7 +2,7 @@
 use Rattle.std.specs.Prelude.{ℕ, ◌==◌, Bool, not, List, [], ◌∷◌, ◌++◌, filter, Option, Some, None, if◌then◌else◌}
 use Rattle.std.specs.List.{list_any}
 
--- Each value of a list once, in the order in which they are first there.
+-- Each value once, in the order of first occurrence.
 abbrev pub distinct : List ℕ → List ℕ
 distinct [] = []
 distinct (n ∷ ns) = n ∷ filter (λ m. not (m == n)) (distinct ns)
@@ -11,7 +11,7 @@ distinct (n ∷ ns) = n ∷ filter (λ m. not (m == n)) (distinct ns)
 abbrev pub is_among : ℕ → List ℕ → Bool
 is_among n ns = list_any (λ m. m == n) ns
 
--- A list with one value more, if it isn't there yet.
+-- The list with one more value, unless it is already there.
 abbrev pub with_new : List ℕ → ℕ → List ℕ
 with_new ns n = if is_among n ns then ns else ns ++ n ∷ []
 

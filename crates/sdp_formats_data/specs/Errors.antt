@@ -4,7 +4,7 @@ use Rattle.std.specs.String.{string_bytes}
 use Rattle.sdp_formats_data.specs.declared.error.SdpError.{SdpError}
 use Rattle.sdp_formats_data.specs.declared.error.SdpError.TheVariants.{ParseError, Inconsistent, Memory}
 
--- What kind of fault it is, and what the error says of it.
+-- The kind of the error, and its details.
 abbrev pub error_text : SdpError → List ℕ
 error_text (ParseError text) = codes "SDP parse: " ++ string_bytes text
 error_text (Inconsistent text) = codes "SDP inconsistent: " ++ string_bytes text

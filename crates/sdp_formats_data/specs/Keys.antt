@@ -1,4 +1,4 @@
--- Candidates as keys of a set.
+-- ICE candidates as keys of a set.
 use Rattle.std.specs.Prelude.{◌≡◌, ℕ, List}
 use Rattle.std.specs.BTreeSet.{BTreeSet, contains}
 use Rattle.std.specs.Borrow.{Bor}
@@ -21,7 +21,7 @@ shown address = (address.0.now, address.1)
 abbrev pub related_of : RelatedAddress → List ℕ × ℕ
 related_of related = (related.addr, related.port)
 
--- It has the fields of the candidate, what is an enum as its word.
+-- The key has the candidate's fields; enums are written as their words.
 pub record IsKeyOf (key : CandidateKey) (candidate : Candidate) : Type 0 where
   pub foundation : key.foundation.now ≡ candidate.foundation
   pub component_id : key.component_id ≡ candidate.component_id

@@ -1,4 +1,4 @@
--- What is known of each source once some of the attributes have been read.
+-- What is known of each source after some of the attributes have been read.
 use Rattle.std.specs.Prelude.{ℕ, List, Option, codes, option_copied}
 use Rattle.std.specs.BTreeMap as tree
 use Rattle.std.specs.BTreeMap.{BTreeMap}
@@ -14,11 +14,11 @@ use Rattle.sdp_formats_values.specs.declared.streams.SsrcInfo.{SsrcInfo}
 abbrev pub word_at : BTreeMap ℕ (Bor (List ℕ)) → ℕ → Option (List ℕ)
 word_at words source = option_copied (tree.get nat_cmp words source)
 
--- The source that another repairs.
+-- The source that another one repairs, as known so far.
 abbrev pub repaired_at : BTreeMap ℕ ℕ → ℕ → Option ℕ
 repaired_at repaired source = tree.get nat_cmp repaired source
 
--- What is known of a source, and what these attributes say of it after that: of each thing the last.
+-- What is known of a source after these attributes too: for each item, the last value counts.
 abbrev pub info_with : Known → List MediaAttribute → ℕ → SsrcInfo
 info_with known attrs source = record {
   ssrc = source;

@@ -1,8 +1,3 @@
-pub use Rattle.sdp_formats_values.specs.Lists
-pub use Rattle.sdp_formats_values.specs.MediaTypes
-pub use Rattle.sdp_formats_values.specs.PrintedCandidates
-pub use Rattle.sdp_formats_values.specs.PrintedValues
-pub use Rattle.sdp_formats_values.specs.Setup
 pub mod Asserted
 pub mod Candidates
 pub mod Compound

@@ -1,7 +1,7 @@
 -- Media sections.
 use Rattle.std.specs.Prelude.{Bool, true, false}
-use Rattle.rtp_wire.specs.declared.Direction.{Direction}
-use Rattle.rtp_wire.specs.declared.Direction.TheVariants as way
+use Rattle.rtp_wire.specs.declared.direction.Direction.{Direction}
+use Rattle.rtp_wire.specs.declared.direction.Direction.TheVariants as way
 use Rattle.sdp_formats_data.specs.declared.media.MediaAttribute.{MediaAttribute}
 use Rattle.sdp_formats_data.specs.declared.media.MediaAttribute.TheVariants.{Mid, RecvOnly, SendRecv, SendOnly}
 use Rattle.sdp_formats_data.specs.declared.media.MediaAttribute.TheVariants.{Inactive}

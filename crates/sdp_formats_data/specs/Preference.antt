@@ -1,11 +1,11 @@
--- Which of several fingerprints is taken (RFC 8122 5).
+-- Which of several fingerprints is preferred (RFC 8122 5).
 use Rattle.std.specs.Prelude.{◌≡◌, ℕ, IsTrue, nat_lt, nat_le, List, [], ◌∷◌, ◌++◌, Option, Some, None, fold}
 use Rattle.std.specs.Prelude.{if◌then◌else◌}
 use Rattle.std.specs.List.{list_all}
 use Rattle.sdp_formats_values.specs.Preference.{hash_preference}
 use Rattle.sdp_formats_values.specs.declared.fingerprint.Fingerprint.{Fingerprint}
 
--- It is one of them, none before it has a place as low, and none behind it a lower one.
+-- It is in the list; every one before it has a higher place, and none after it has a lower one.
 pub record IsFirstOfLowest (prints : List Fingerprint) (print : Fingerprint) : Type 0 where
   pub before : List Fingerprint
   pub behind : List Fingerprint
@@ -13,12 +13,12 @@ pub record IsFirstOfLowest (prints : List Fingerprint) (print : Fingerprint) : T
   pub first : IsTrue (list_all (λ p. nat_lt (hash_preference print) (hash_preference p)) before)
   pub lowest : IsTrue (list_all (λ p. nat_le (hash_preference print) (hash_preference p)) behind)
 
--- None of no fingerprint, else the first of those with the lowest place.
+-- None for an empty list; otherwise the first fingerprint with the lowest place.
 abbrev pub IsPreferred : List Fingerprint → Option Fingerprint → Type 0
 IsPreferred prints None = prints ≡ []
 IsPreferred prints (Some print) = IsFirstOfLowest prints print
 
--- The best so far with one more, and that of a list.
+-- The better of the best so far and one more; and the best of a list.
 abbrev pub chosen : Option Fingerprint → Option Fingerprint → Option Fingerprint
 chosen best None = best
 chosen None (Some print) = Some print

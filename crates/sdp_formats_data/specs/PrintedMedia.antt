@@ -3,7 +3,7 @@ use Rattle.std.specs.Prelude.{ℕ, not, List, [], ◌∷◌, map, codes, if◌th
 use Rattle.std.specs.Fmt.{decimal}
 use Rattle.std.specs.Option.{option_map}
 use Rattle.sdp_formats_grammar.specs.Joined.{spelled, joined, maybe_text}
-use Rattle.payload_core_base.specs.Codecs.{codec_name}
+use Rattle.media_types.specs.Codecs.{codec_name}
 use Rattle.sdp_formats_values.specs.PrintedParameters.{param_text}
 use Rattle.sdp_formats_values.specs.declared.FormatParam.{FormatParam}
 use Rattle.rtp_wire.specs.Kinds.{uri_of}
@@ -31,7 +31,7 @@ abbrev pub rtp_map_text : map_of.RtpMap → List ℕ
 rtp_map_text m = spelled (codec_name m.codec ∷ codes "/" ∷ decimal m.clock_rate
     ∷ maybe_text (codes "/") (option_map decimal m.channels) ∷ [])
 
--- Parameters with semicolons between (RFC 8866 6.15).
+-- Parameters separated by semicolons (RFC 8866 6.15).
 abbrev pub params_text : List FormatParam → List ℕ
 params_text params = joined (codes ";") (map param_text params)
 
@@ -45,7 +45,7 @@ listed_text (SsrcGroup semantics ssrcs) = spelled (codes "a=ssrc-group:" ∷ sem
     ∷ numbers_text (codes " ") ssrcs ∷ line_end ∷ [])
 listed_text _ = []
 
--- What stands before the text of an attribute that is one text.
+-- The prefix of an attribute with a single text.
 abbrev pub name_before : MediaAttribute → List ℕ
 name_before (Rtcp value) = codes "a=rtcp:"
 name_before (IceUfrag value) = codes "a=ice-ufrag:"
@@ -55,7 +55,7 @@ name_before (SctpInit value) = codes "a=sctp-init:"
 name_before (Unused value) = codes "a="
 name_before _ = []
 
--- The line of an attribute that is a plain word.
+-- The line of an attribute without a value.
 abbrev pub flag_text : MediaAttribute → List ℕ
 flag_text RecvOnly = codes "a=recvonly\r\n"
 flag_text SendRecv = codes "a=sendrecv\r\n"
@@ -112,7 +112,7 @@ attribute_text a = listed_text a
 abbrev pub attributes_text : List MediaAttribute → List ℕ
 attributes_text attributes = joined [] (map attribute_text attributes)
 
--- The formats of a line `m=`.
+-- The format list of an `m=` line.
 unfoldable pub formats_text : MediaLine → List ℕ
 formats_text m = if is_channel m.typ then codes "webrtc-datachannel"
     else if is_empty m.pts then codes "0" else numbers_text (codes " ") m.pts

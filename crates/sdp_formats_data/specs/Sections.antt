@@ -2,7 +2,7 @@
 use Rattle.std.specs.Prelude.{ℕ, Bool, true, false, List, [], ◌∷◌, map, Option, Some, None}
 use Rattle.std.specs.Borrow.{Bor}
 use Rattle.rtp_wire.specs.Name.{name_of}
-use Rattle.rtp_wire.specs.declared.Extension.{Extension}
+use Rattle.rtp_wire.specs.declared.extension.Extension.{Extension}
 use Rattle.sdp_formats_data.specs.Creds.{with_name}
 use Rattle.sdp_formats_data.specs.Lookups.{first_of}
 use Rattle.sdp_formats_data.specs.declared.media.MediaAttribute.{MediaAttribute}

@@ -1,4 +1,4 @@
--- A set of the sources that are in a list.
+-- A set of the sources in a list.
 use Rattle.std.specs.Prelude.{◌≡◌, ℕ, List}
 use Rattle.std.specs.BTreeSet.{BTreeSet, contains}
 use Rattle.std.specs.Ordering.{nat_cmp}

@@ -1,4 +1,4 @@
--- What a whole session text says: the session's own word, or else that of its first section that has one.
+-- What an SDP says at session level, or else in its first section that says it.
 use Rattle.std.specs.Prelude.{ℕ, List, [], ◌∷◌, map, Option}
 use Rattle.std.specs.List.{filter_map}
 use Rattle.std.specs.Option.{option_or}
@@ -17,7 +17,7 @@ session_prints s = filter_map session.fingerprint_in s.attrs
 abbrev pub section_prints : MediaLine → List Fingerprint
 section_prints m = filter_map sections.fingerprint_in m.attrs
 
--- The first list that has something.
+-- The first list that isn't empty.
 abbrev pub first_listed : {A : Type 0} → List (List A) → List A
 first_listed [] = []
 first_listed ([] ∷ lists) = first_listed lists

@@ -1,4 +1,4 @@
-//! Candidates as keys of a set.
+//! ICE candidates as keys of a set.
 
 ghost use Rattle.std.specs.Prelude.{◌≡◌};
 ghost use Rattle.std.specs.Option.{option_copied, option_map};
@@ -7,7 +7,8 @@ ghost use Rattle.sdp_formats_data.specs.Keys.{IsKeyOf, related_of, shown};
 
 use sdp_formats_values::{Candidate, RelatedAddress, TcpType};
 
-/// A candidate by all of its fields. Keys are ordered and not hashed, since texts can be made that have one hash.
+/// A candidate by all of its fields. Keys are ordered, not hashed, since a peer could make texts
+/// whose hashes collide.
 #[derive(PartialEq, Eq, PartialOrd, Ord, Drop)]
 pub(crate) struct CandidateKey<'a> {
     foundation: &'a str,

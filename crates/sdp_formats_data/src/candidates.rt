@@ -11,7 +11,7 @@ use sdp_formats_values::Candidate;
 use std::alloc::{AllocError, Global};
 use std::collections::BTreeSet;
 
-/// All candidates of a text, those of the session first.
+/// All ICE candidates of an SDP, session-level ones first.
 fn all_candidates(alloc: Global, sdp: &Sdp) -> Result<Vec<&Candidate>, AllocError>
     ensures { IfOk result (λ all. borrowed all.items ≡ candidates_of sdp.now) }
 {

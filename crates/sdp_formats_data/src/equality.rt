@@ -2,7 +2,7 @@
 
 ghost use Rattle.std.specs.Prelude.{◌≡◌, ◌↔◌, IsTrue, List, Option, ℕ};
 ghost use Rattle.sdp_formats_values.specs.declared.bandwidth.Bandwidth.{Bandwidth};
-ghost use Rattle.rtp_wire.specs.declared.Extension.{Extension};
+ghost use Rattle.rtp_wire.specs.declared.extension.Extension.{Extension};
 ghost use Rattle.sdp_formats_values.specs.declared.param.FormatParam.{FormatParam};
 ghost use Rattle.sdp_formats_data.specs.declared.media.MediaAttribute.{MediaAttribute};
 ghost use Rattle.sdp_formats_data.specs.declared.media.MediaLine.{MediaLine};

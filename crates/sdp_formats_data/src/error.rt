@@ -7,9 +7,9 @@ use std::fmt;
 /// Why a session text isn't read.
 #[derive(Debug, Drop)]
 pub enum SdpError {
-    /// It has no good header, or a section with a fault.
+    /// It has no valid header, or an inconsistent section.
     ParseError(String),
-    /// Its parts don't go together.
+    /// Its parts are inconsistent.
     Inconsistent(String),
     /// Out of memory.
     Memory,

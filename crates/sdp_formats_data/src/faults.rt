@@ -32,9 +32,9 @@ pub enum Inconsistency {
     Directions,
     /// It carries RTP, isn't refused, and lists no payload type.
     NoPayloadType,
-    /// A listed payload type has several `a=rtpmap` lines, or none and no meaning of its own (RFC 3551 6).
+    /// A listed payload type has several `a=rtpmap` lines, or none and isn't static (RFC 3551 6).
     RtpMaps,
-    /// A payload type retransmits several others (RFC 4588 8.6).
+    /// An RTX payload type has several different `apt` values (RFC 4588 8.6).
     ConflictingApts,
 }
 

@@ -60,8 +60,8 @@ fn keep_repaired(
     Ok(())
 }
 
-/// The last that is said of each thing, under the source's number. The maps are sorted and not hashed: a remote peer
-/// chooses the numbers, and could choose ones whose hashes collide.
+/// The last value of each item, by source. The maps are sorted, not hashed: a remote peer chooses
+/// the SSRCs, and could choose colliding ones.
 #[derive(Drop)]
 pub(crate) struct Known<'a> {
     repaired: BTreeMap<u32, Ssrc>,

@@ -41,15 +41,7 @@ pub use faults::{Inconsistency, are_consistent};
 pub use media::{MediaAttribute, MediaLine, RtpMap};
 pub use name_set::NameSet;
 pub use printed_whole::{Sections, SessionAttributes};
-pub use rtp_wire::{Mid, SessionId};
 pub use said::is_no_stream;
-pub use sdp_formats_grammar::{Listed, Text};
-pub use sdp_formats_values::{
-    Bandwidth, Candidate, CandidateKind, Fingerprint, FormatParam, H265ProfileTierLevel,
-    H266ProfileTierLevel, IceCreds, MediaType, Mids, Msid, Pair, Proto, Protocol, RelatedAddress,
-    RestrictionId, RidDirection, Setup, Simulcast, SimulcastGroups, SimulcastLayer, SsrcInfo,
-    TcpType, Words, write_both, write_value,
-};
 pub use session::{Sdp, Session, SessionAttribute};
 pub use sources::sources_of;
 pub use value_equality::candidate_equality_law;

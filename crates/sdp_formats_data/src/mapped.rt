@@ -43,7 +43,7 @@ fn is_mapped(attributes: &[MediaAttribute], pt: Pt) -> bool
     count == 1 || (count == 0 && is_static(pt))
 }
 
-/// The same, where a type that is listed again costs nothing.
+/// The same, but a type that is listed again costs nothing.
 fn is_known_mapped(attributes: &[MediaAttribute], known: &mut [bool], pt: Pt) -> bool
     requires { KnowsMapped attributes.now known.old }
     ensures value { result ≡ is_mapped attributes.now pt }

@@ -4,7 +4,7 @@ ghost use Rattle.std.specs.Prelude.{◌≡◌, [], None, false};
 ghost use Rattle.sdp_formats_values.specs.declared.media_type.MediaType.TheVariants.{Audio};
 ghost use Rattle.sdp_formats_values.specs.declared.media_type.Proto.TheVariants.{Srtp};
 
-use payload_core_base::Codec;
+use media_types::Codec;
 use rtp_wire::{Extension, Frequency, Mid, Pt, Ssrc};
 use sdp_formats_grammar::{Listed, Maybe, Text};
 use sdp_formats_values::{
@@ -23,15 +23,16 @@ pub struct MediaLine {
     pub disabled: bool,
     /// How it is carried.
     pub proto: Proto,
-    /// The payload types of its line `m=`; none where the list there isn't of numbers up to 255.
+    /// The payload types of its `m=` line; none if the list contains anything but numbers up to
+    /// 255.
     pub pts: Listed<Pt>,
-    /// The bandwidth, if one is given (RFC 8866 5.8).
+    /// The bandwidth, if given (RFC 8866 5.8).
     pub bw: Option<Bandwidth>,
     /// The attributes, in order (RFC 8866 5.13).
     pub attrs: Listed<MediaAttribute>,
 }
 
-/// Written by hand so that crates that drop this type need no proof about its fields.
+/// Written by hand, so that crates that drop this type need no proof about its fields.
 impl Drop for MediaLine {
     fn drop(self) {
         let MediaLine {
@@ -113,7 +114,7 @@ pub enum MediaAttribute {
     SctpPort(u16),
     /// `a=max-message-size` in bytes, 0 without a limit (RFC 8841 6).
     MaxMessageSize(usize),
-    /// `a=sctp-init`: the first chunk of the association in base 64, as it stands there.
+    /// `a=sctp-init`: the first chunk of the association in base 64, unchanged.
     SctpInit(Text),
     /// `a=extmap` (RFC 8285 8).
     ExtMap {
@@ -196,7 +197,7 @@ pub enum MediaAttribute {
     Unused(Text),
 }
 
-/// Written by hand so that crates that drop this type need no proof about its fields.
+/// Written by hand, so that crates that drop this type need no proof about its fields.
 impl Drop for MediaAttribute {
     fn drop(self) {
         match self {

@@ -1,4 +1,4 @@
-//! The names of sections as a set.
+//! The mids of sections, as a set.
 
 ghost use Rattle.std.specs.Prelude.{◌≡◌, IfOk};
 ghost use Rattle.std.specs.List.{list_any};

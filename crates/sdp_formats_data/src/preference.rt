@@ -1,4 +1,4 @@
-//! Which of several fingerprints is taken (RFC 8122 5).
+//! Which of several fingerprints is preferred (RFC 8122 5).
 
 ghost use Rattle.std.specs.Prelude.{◌≡◌};
 ghost use Rattle.std.specs.Option.{option_copied};

@@ -10,7 +10,7 @@ use crate::media::MediaAttribute;
 use rtp_wire::Pt;
 use sdp_formats_values::FormatParam;
 
-/// Does the parameter name another type than this one as retransmitted?
+/// Does the parameter give another `apt` than this one?
 fn apt_differs(apt: Pt, param: &FormatParam) -> bool
     ensures { result ≡ apt_differs apt param.now }
 {
@@ -27,7 +27,7 @@ fn has_other_apt(values: &[FormatParam], apt: Pt) -> bool
     values.iter().any(|param| apt_differs(apt, param))
 }
 
-/// Does the line say nothing else of what the payload type retransmits?
+/// Does the line give this payload type no other `apt`?
 fn attribute_agrees(attribute: &MediaAttribute, pt: Pt, apt: Pt) -> bool
     ensures { result ≡ attribute_agrees pt apt attribute.now }
 {
@@ -119,7 +119,7 @@ fn gives_apt(
     }
 }
 
-/// Does each payload type retransmit one other at most?
+/// Does every RTX payload type have at most one `apt`?
 pub(crate) fn apts_agree(attributes: &[MediaAttribute]) -> bool
     ensures { result ≡ apts_agree attributes.now }
 {

@@ -56,8 +56,8 @@ impl MediaLine {
         None
     }
 
-    /// The direction, of the first attribute that gives one; `Inactive` where none does, unlike RFC 8866 6.7, which
-    /// has a reader assume `sendrecv` there.
+    /// The direction: that of the first direction attribute; `Inactive` if there is none (RFC 8866
+    /// 6.7 would have a reader assume `sendrecv`).
     #[tactic(auto, unfolding(crate::specs::Lookups::direction_in))]
     pub fn direction(&self) -> Direction
         ensures { result ≡ direction_of self.now.attrs }

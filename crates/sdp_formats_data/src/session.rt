@@ -23,13 +23,13 @@ pub struct Sdp {
 pub struct Session {
     /// The number of the session (RFC 8866 5.2).
     pub id: SessionId,
-    /// The bandwidth, if one is given (RFC 8866 5.8).
+    /// The bandwidth, if given (RFC 8866 5.8).
     pub bw: Option<Bandwidth>,
     /// The attributes, in order (RFC 8866 5.13).
     pub attrs: Listed<SessionAttribute>,
 }
 
-/// Written by hand so that crates that drop this type need no proof about its fields.
+/// Written by hand, so that crates that drop this type need no proof about its fields.
 impl Drop for Session {
     fn drop(self) {
         let Session {
@@ -92,7 +92,7 @@ pub enum SessionAttribute {
     Unused(Text),
 }
 
-/// Written by hand so that crates that drop this type need no proof about its fields.
+/// Written by hand, so that crates that drop this type need no proof about its fields.
 impl Drop for SessionAttribute {
     fn drop(self) {
         match self {

@@ -1,4 +1,4 @@
-//! What a whole session text says: the session's own word, or else that of its first section that has one.
+//! What an SDP says at session level, or else in its first section that says it.
 
 ghost use Rattle.std.specs.Prelude.{◌≡◌, map};
 ghost use Rattle.std.specs.Option.{option_copied};

@@ -23,7 +23,7 @@ pub split_first-nowhere : (c : ℕ) (text : List ℕ) → Lacks c text → split
 split_first-nowhere c [] h = refl
 split_first-nowhere c (b ∷ text) h = other_byte b c _ _ h.0 ∙ ap (option_map (onto b)) (split_first-nowhere c text h.1)
 
--- A text cut at its first such byte, or nowhere.
+-- A text cut at the first occurrence of a byte; or the byte doesn't occur.
 pub data IsCut (c : ℕ) (text : List ℕ) : Type 0 where
   somewhere : (front back : List ℕ) → text ≡ front ++ c ∷ back → Lacks c front → IsCut c text
   nowhere : Lacks c text → IsCut c text

@@ -1,4 +1,4 @@
--- Forms whose two meanings are the same.
+-- Forms whose reader and relation agree.
 use Rattle.std.proofs.Common.{◌≡◌, ◌≢◌, ◌⊎◌, ℕ, Bool, ◌==◌, List, [], ◌∷◌, Option, Some, None, refl, sym, ◌∙◌}
 use Rattle.std.proofs.Common.{ap, inl, inr, ⊎_elim, cond, true, false}
 use Rattle.std.specs.Option.{option_map, option_or}

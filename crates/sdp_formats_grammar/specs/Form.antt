@@ -1,21 +1,21 @@
--- Forms of a text: what a text of the form says, and the same as a relation.
+-- Forms of a text: a reader, and the same as a relation.
 use Rattle.std.specs.Prelude.{◌≡◌, ◌⊎◌, ◌++◌, ℕ, Bool, true, if◌then◌else◌, List, [], ◌∷◌, Option, Some, None}
 use Rattle.std.specs.Option.{option_map, option_or}
 use Rattle.sdp_formats_grammar.specs.Bind.{◌>>=◌}
 use Rattle.sdp_formats_grammar.specs.Numbers.{number_below}
 use Rattle.sdp_formats_grammar.specs.Split.{Lacks, IsJoined, split_first, halves, behind, parts}
 
--- A form: what a text says, if it is of the form, and the relation that this is.
+-- A form: its reader, and the relation that specifies it.
 pub record Form (A : Type 0) : Type 1 where
   pub reads : List ℕ → Option A
   pub Says : List ℕ → A → Type 0
 
--- The two are the same: a text says at most one value, and is read exactly where it says one.
+-- They agree: a text says at most one value, and is read if and only if it says one.
 pub record IsExact {A : Type 0} (f : Form A) : Type 0 where
   pub sound : (text : List ℕ) (a : A) → f.reads text ≡ Some a → f.Says text a
   pub complete : (text : List ℕ) (a : A) → f.Says text a → f.reads text ≡ Some a
 
--- What a function on texts says.
+-- The form of a function on texts.
 abbrev pub told : {A : Type 0} → (List ℕ → Option A) → Form A
 told f = record { reads = f; Says = λ t a. f t ≡ Some a }
 
@@ -31,21 +31,21 @@ any_text = told some_text
 abbrev pub number : ℕ → Form ℕ
 number limit = told (number_below limit)
 
--- A value made of a form's value.
+-- A form whose value is mapped by a function.
 abbrev pub made : {A B : Type 0} → (A → B) → Form A → Form B
 made h f = record {
   reads = λ t. option_map h (f.reads t);
   Says = λ t b. (a : _) × f.Says t a × (b ≡ h a);
 }
 
--- These words, and then a form.
+-- These words, followed by a form.
 abbrev pub after : {A : Type 0} → List ℕ → Form A → Form A
 after words f = record {
   reads = λ t. behind words t >>= f.reads;
   Says = λ t a. (rest : List ℕ) × (t ≡ words ++ rest) × f.Says rest a;
 }
 
--- One form before the first such byte, and one behind it.
+-- One form before the first occurrence of a byte, and one after it.
 abbrev pub both : {A B : Type 0} → (List ℕ → Option A) → (List ℕ → Option B) → List ℕ × List ℕ → Option (A × B)
 both f g p = f p.0 >>= λ a. g p.1 >>= λ b. Some (a, b)
 
@@ -60,7 +60,7 @@ abbrev pub maybe : {A : Type 0} → (List ℕ → Option A) → Option (List ℕ
 maybe f None = Some None
 maybe f (Some t) = option_map Some (f t)
 
--- One form before the first such byte, and one behind it where there is such a byte.
+-- One form before the first occurrence of a byte, and one after it if there is one.
 abbrev pub both_maybe : {A B : Type 0} → (List ℕ → Option A) → (Option (List ℕ) → Option B) → List ℕ
     × Option (List ℕ) → Option (A × B)
 both_maybe f g h = f h.0 >>= λ a. g h.1 >>= λ b. Some (a, b)
@@ -76,7 +76,7 @@ cut_maybe c f g = record {
   Says = λ t ab. SaysMaybe c f.Says g.Says t ab.0 ab.1;
 }
 
--- Pieces between such bytes, each of a form.
+-- Pieces separated by a byte, each of a form.
 abbrev pub each : {A : Type 0} → (List ℕ → Option A) → List (List ℕ) → Option (List A)
 each f [] = Some []
 each f (t ∷ ts) = f t >>= λ a. each f ts >>= λ as'. Some (a ∷ as')
@@ -93,7 +93,7 @@ separated c f = record {
   Says = λ t as'. (pieces : List (List ℕ)) × IsJoined c pieces t × Each f.Says pieces as';
 }
 
--- The first of two forms that fits.
+-- The first of two forms that matches.
 abbrev pub either : {A : Type 0} → Form A → Form A → Form A
 either f g = record {
   reads = λ t. option_or (f.reads t) (g.reads t);
@@ -110,7 +110,7 @@ only p f = record {
   Says = λ t a. f.Says t a × (p a ≡ true);
 }
 
--- The word behind a field's name and what is left behind a blank; no word where the text doesn't begin with the name.
+-- The word after a field's name, and the rest after a blank; no word if the text doesn't begin with the name.
 abbrev pub field_word : List ℕ × Option (List ℕ) → Option (Option (List ℕ) × Option (List ℕ))
 field_word h = some_text h.0 >>= λ w. Some (Some w, h.1)
 

@@ -1,4 +1,4 @@
--- Texts one behind the other, as they are printed.
+-- Concatenated texts, as they are printed.
 use Rattle.std.proofs.Common.{◌≡◌, ℕ, List, [], ◌∷◌, ◌++◌, ◌/◌, ◌%◌, true, map, Option, None, Some, Result, refl, ap}
 use Rattle.std.proofs.Common.{subst, ◌∙◌}
 use Rattle.std.specs.Option.{option_map}
@@ -13,7 +13,7 @@ spelled [] = []
 spelled (text ∷ []) = text
 spelled (text ∷ next ∷ texts) = text ++ spelled (next ∷ texts)
 
--- The texts, each behind the separator.
+-- The texts, each after a separator.
 abbrev pub each_behind : List ℕ → List (List ℕ) → List ℕ
 each_behind separator [] = []
 each_behind separator (text ∷ texts) = separator ++ text ++ each_behind separator texts
@@ -23,7 +23,7 @@ abbrev pub joined : List ℕ → List (List ℕ) → List ℕ
 joined separator [] = []
 joined separator (text ∷ texts) = text ++ each_behind separator texts
 
--- The same of values of which each may have a text.
+-- The same for values that may have no text.
 abbrev pub outputs_behind : List ℕ → List (Option (List ℕ)) → Option (List ℕ)
 outputs_behind separator [] = Some []
 outputs_behind separator (o ∷ os) = o >>= λ text. outputs_behind separator os
@@ -46,7 +46,7 @@ joined_some separator text [] = refl
 joined_some separator text (x ∷ xs) =
     ap (λ o. o >>= λ more. Some (text x ++ more)) (outputs_some separator text xs)
 
--- A text that may be there, behind another.
+-- An optional text, preceded by another.
 abbrev pub maybe_text : List ℕ → Option (List ℕ) → List ℕ
 maybe_text before None = []
 maybe_text before (Some text) = before ++ text

@@ -1,4 +1,4 @@
--- Reading by the name up to the first colon is the ordered choice of the kinds.
+-- Reading by the name before the first colon is the same as trying the kinds in order.
 use Rattle.std.proofs.Common.{◌≡◌, ◌≢◌, ℕ, ◌==◌, Bool, true, false, not, ◌&&◌, cond, List, [], ◌∷◌, ◌++◌}
 use Rattle.std.proofs.Common.{Option, Some, None, refl, sym, ◌∙◌, ap, append_assoc}
 use Rattle.std.specs.Option.{option_or}

@@ -1,4 +1,4 @@
--- Kinds of attributes: a name with a colon and a value behind it, or one of some words that stand alone.
+-- Kinds of attributes: a name, a colon and a value, or one of several words.
 use Rattle.std.specs.Prelude.{ℕ, ◌==◌, Bool, true, not, ◌&&◌, List, [], ◌∷◌, ◌++◌, Option, Some, None}
 use Rattle.std.specs.Prelude.{map, if◌then◌else◌}
 use Rattle.std.specs.Option.{option_or}
@@ -39,7 +39,7 @@ alone_of [] text = None
 alone_of (Named name form ∷ kinds) text = alone_of kinds text
 alone_of (OneOf table ∷ kinds) text = option_or (word_of table text) (alone_of kinds text)
 
--- A text by its name, which is what stands before the first colon, or by itself where it has no colon.
+-- A text by its name, which is what precedes the first colon, or as a word if it has no colon.
 abbrev pub by_name : {A : Type 0} → List (Kind A) → List ℕ → Option (List ℕ × List ℕ) → Option A
 by_name kinds text (Some cut) = value_of kinds cut.0 cut.1
 by_name kinds text None = alone_of kinds text

@@ -5,7 +5,7 @@ use Rattle.std.specs.Option.{option_copied}
 use Rattle.sdp_formats_grammar.specs.declared.refusal.Refusal.{Refusal}
 use Rattle.sdp_formats_grammar.specs.declared.refusal.Refusal.TheVariants.{Unfit, Memory}
 
--- A reader answers what a form says of the text, and that it is unfit exactly where the form says nothing, unless
+-- A reader returns the value that a form says of the text, and Unfit if and only if the form says nothing, unless
 -- memory runs out.
 abbrev pub GivesBy : {A B : Type 0} → (A → B) → Result A Refusal → Option B → Type 0
 GivesBy view (Ok x) said = said ≡ Some (view x)
@@ -35,7 +35,7 @@ fitted_of (Ok a) = Ok (Some a)
 fitted_of (Err Unfit) = Ok None
 fitted_of (Err Memory) = Err Memory
 
--- What is printed of a refusal.
+-- The text of a refusal.
 abbrev pub refusal_text : Refusal → List ℕ
 refusal_text Unfit = codes "not of the form"
 refusal_text Memory = codes "out of memory"

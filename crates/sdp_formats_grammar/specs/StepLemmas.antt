@@ -3,7 +3,7 @@ use Rattle.std.proofs.Common.{◌≤◌, ℕ, List, [], ◌∷◌, ◌++◌, len
 use Rattle.std.proofs.Common.{◌∙◌, ap, subst}
 use Rattle.sdp_formats_grammar.specs.Step.{Step, Begins, Many, Perhaps, IsFunctional, IsShortening}
 
--- One more value behind some.
+-- One more value at the end.
 pub begins-more : {A : Type 0} (S : Step A) (t : List ℕ) (as' : List A) (m : List ℕ) (a : A) (r : List ℕ)
     → Begins S t as' m → S m a r → Begins S t (as' ++ a ∷ []) r
 begins-more S t [] m a r h s = (r, subst (λ x. S x a r) h s, refl)

@@ -1,4 +1,4 @@
--- One step after the other.
+-- Steps in sequence.
 use Rattle.std.proofs.Common.{◌≡◌, Option, None, Some, List, [], ◌∷◌, refl}
 use Rattle.std.specs.Option.{option_map}
 use Rattle.sdp_formats_grammar.specs.Bind.{◌>>=◌}

@@ -1,4 +1,4 @@
--- What stands behind the words that a text begins with.
+-- What follows these words in a text that begins with them.
 use Rattle.std.proofs.Common.{◌≡◌, ℕ, ◌==◌, true, List, [], ◌∷◌, ◌++◌, None, Some}
 use Rattle.std.proofs.Common.{refl}
 use Rattle.std.proofs.lemmas.Bool.{cond_both}

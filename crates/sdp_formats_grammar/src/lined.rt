@@ -18,7 +18,7 @@ pub trait Lined<T: Drop> {
     fn read(alloc: Global, content: &str) -> Result<T, Refusal>
         ensures { Gives result (form.reads content.now) };
 
-    /// The form is read exactly where it says a value.
+    /// The form is read if and only if it says a value.
     fn exact_law()
         ensures { IsExact form };
 }

@@ -1,4 +1,4 @@
-//! Values one after the other.
+//! Values in sequence.
 
 ghost use Rattle.std.specs.Prelude.{List, ℕ};
 ghost use Rattle.sdp_formats_grammar.specs.Step.{Steps, Finds, Shortens, Many, Perhaps};

@@ -20,7 +20,7 @@ pub struct Text {
     text: String,
 }
 
-/// Written by hand so that crates that drop this type need no proof about its fields.
+/// Written by hand, so that crates that drop this type need no proof about its fields.
 impl Drop for Text {
     fn drop(self) {
         let Text { text: _text } = self;

@@ -5,7 +5,7 @@ use Rattle.std.specs.Prelude.{◌&&◌, ◌||◌, ◌==◌}
 use Rattle.std.specs.Ordering.{match_ordering, nat_cmp}
 use Rattle.std.specs.Cmp.Lexicographic.{slice_cmp}
 use Rattle.std.proofs.lemmas.Bool.Decides.{nat_tests}
-use Rattle.rtp_wire_values.specs.Time.{frequency_of}
+use Rattle.rtp_wire.specs.Time.{frequency_of}
 use Rattle.serde_json.specs.Data.{Data, object, Members, no_members, member}
 use Rattle.serde_json.specs.Data.{put, depth, members_depth}
 use Rattle.serde_json.specs.Find.{get, as_null}
@@ -13,7 +13,7 @@ use Rattle.serde_json.specs.Written.{has_float, members_have_float}
 use Rattle.sdp_formats_json.specs.Names.{field_name}
 use Rattle.sdp_formats_json.specs.Shapes.{Shape, and_then, or_refused, tested, number_where, byte, half_word, word}
 use Rattle.sdp_formats_json.specs.Shapes.{rate, flag, word_of}
-use Rattle.named_values.specs.Names.{with_name}
+use Rattle.media_types.specs.Names.{with_name}
 use Rattle.sdp_formats_json.specs.Shapes.{optional_data, optional_fits, optional_read}
 use Rattle.sdp_formats_json.specs.Entries.{Entry, entry, optional, put_all, read_all, all_fit, object_of}
 use Rattle.sdp_formats_json.specs.Entries.{put_groups, read_groups, groups_fit, object_in}

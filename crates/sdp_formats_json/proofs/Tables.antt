@@ -1,13 +1,13 @@
 -- Rows, and all that they hold, come back.
 use Rattle.std.proofs.Common.{◌≡◌, ℕ, List, [], ◌∷◌, refl}
 use Rattle.serde_json.specs.Data.{object, no_members}
-use Rattle.h26x_payload_profiles.specs.ProfileTierLevel.{fallback}
-use Rattle.h26x_payload_profiles.specs.declared.profile_tier_level.ProfileTierLevel.{ProfileTierLevel}
-use Rattle.named_values.specs.Names.{HasOwnNames}
-use Rattle.sdp_formats_params.specs.declared.format.FormatParams.{FormatParams}
+use Rattle.media_types.specs.ProfileTierLevel.{fallback}
+use Rattle.media_types.specs.declared.profile_tier_level.ProfileTierLevel.{ProfileTierLevel}
+use Rattle.media_types.specs.Names.{HasOwnNames}
+use Rattle.sdp_formats_rows.specs.declared.format.FormatParams.{FormatParams}
 use Rattle.sdp_formats_rows.specs.declared.spec.CodecSpec.{CodecSpec}
 use Rattle.sdp_formats_rows.specs.Rows.{Row}
-use Rattle.sdp_formats_params.specs.Formats.{no_format}
+use Rattle.sdp_formats_rows.specs.Formats.{no_format}
 use Rattle.sdp_formats_json.specs.Names.{field_name}
 use Rattle.sdp_formats_json.specs.Entries.{entry, optional, put_all, put_groups}
 use Rattle.sdp_formats_json.specs.NamedLaws.{codec_known, h265_profile_known, h265_level_known}

@@ -1,4 +1,4 @@
--- Objects by tables of their fields.
+-- JSON objects from tables of fields.
 use Rattle.std.specs.Prelude.{◌&&◌, Bool, true, List, [], ◌∷◌, Option, Result, Ok, Err, is_some, if◌then◌else◌, ⊤}
 use Rattle.serde_json.specs.Data.{Data, object, Members, no_members, put}
 use Rattle.serde_json.specs.Find.{get, as_object}
@@ -9,8 +9,8 @@ use Rattle.sdp_formats_json.specs.declared.error.Field.{Field}
 use Rattle.sdp_formats_json.specs.declared.error.JsonError.{JsonError}
 use Rattle.sdp_formats_json.specs.declared.error.JsonError.TheVariants.{Unfit}
 
--- A field of a struct: its name, what is written of it, what is read into it, whether its value comes back, and how
--- it is copied from one struct into another.
+-- A field of a struct: its name, how it is written and read, whether its value round-trips, and how it is copied
+-- between structs.
 pub record Entry (R : Type 0) : Type 0 where
   pub field : Field
   pub gives : R → Data
@@ -18,7 +18,7 @@ pub record Entry (R : Type 0) : Type 0 where
   pub fits : R → Bool
   pub moves : R → R → R
 
--- A field that has to be there.
+-- A required field.
 unfoldable pub entry : {R A : Type 0} → Field → Shape A → (R → A) → (A → R → R) → Entry R
 entry field shape value with_value = record {
   field = field;
@@ -28,7 +28,7 @@ entry field shape value with_value = record {
   moves = λ from to. with_value (value from) to;
 }
 
--- A field that may be missing.
+-- An optional field.
 unfoldable pub optional : {R A : Type 0} → Field → Shape A → (R → Option A) → (Option A → R → R) → Entry R
 optional field shape value with_value = record {
   field = field;
@@ -38,12 +38,12 @@ optional field shape value with_value = record {
   moves = λ from to. with_value (value from) to;
 }
 
--- The members of a struct, put in one after the other; an object keeps its members in the order of their names.
+-- The members of a struct, inserted in order; an object sorts its members by name.
 abbrev pub put_all : {R : Type 0} → List (Entry R) → R → Members → Members
 put_all [] r ms = ms
 put_all (e ∷ es) r ms = put_all es r (put (field_name e.field) (e.gives r) ms)
 
--- The fields read one after the other; the first that fails is the refusal.
+-- The fields are read in order; the first failure is the result.
 abbrev pub read_all : {R : Type 0} → List (Entry R) → Data → R → Result R JsonError
 read_all [] d r = Ok r
 read_all (e ∷ es) d r = and_then (e.takes (get (field_name e.field) d) r) (read_all es d)
@@ -52,7 +52,7 @@ abbrev pub all_fit : {R : Type 0} → List (Entry R) → R → Bool
 all_fit [] r = true
 all_fit (e ∷ es) r = e.fits r && all_fit es r
 
--- A struct is an object of its fields. Members of other names are passed over.
+-- A struct is an object of its fields. Unknown members are ignored.
 abbrev pub object_of : {R : Type 0} → List (Entry R) → R → Shape R
 object_of entries blank = record {
   writes = λ r. object (put_all entries r no_members);
@@ -60,7 +60,7 @@ object_of entries blank = record {
   fits = all_fit entries;
 }
 
--- The same in groups of fields, one group after the other.
+-- The same for groups of fields, in order.
 abbrev pub put_groups : {R : Type 0} → List (List (Entry R)) → R → Members → Members
 put_groups [] r ms = ms
 put_groups (g ∷ gs) r ms = put_groups gs r (put_all g r ms)
@@ -80,7 +80,7 @@ object_in groups blank = record {
   fits = groups_fit groups;
 }
 
--- What a proof opens to see what the fields of a table are.
+-- Unfolded by proofs that need a table's fields.
 unfoldable pub open_fields : ⊤
 unfolding entry optional word_of
 open_fields = tt

@@ -1,7 +1,7 @@
 -- Formats in JSON.
 use Rattle.std.specs.Prelude.{List, [], ◌∷◌}
-use Rattle.sdp_formats_params.specs.declared.format.FormatParams.{FormatParams}
-use Rattle.sdp_formats_params.specs.Formats.{no_format}
+use Rattle.sdp_formats_rows.specs.declared.format.FormatParams.{FormatParams}
+use Rattle.sdp_formats_rows.specs.Formats.{no_format}
 use Rattle.sdp_formats_json.specs.Shapes.{Shape, byte, half_word, word, flag}
 use Rattle.sdp_formats_json.specs.Entries.{Entry, optional, object_in}
 use Rattle.sdp_formats_json.specs.Levels.{h265, h266}
@@ -40,6 +40,6 @@ other_entries =
     ∷ optional field.OctetAlign flag (λ f. f.octet_align) (λ x f. record f { octet_align = x })
     ∷ optional field.ModeSet half_word (λ f. f.mode_set) (λ x f. record f { mode_set = x }) ∷ []
 
--- A format is an object of all its parameters, null where one isn't given.
+-- A format is an object of all its parameters; one that isn't given is null.
 unfoldable pub format : Shape FormatParams
 format = object_in (opus_entries ∷ video_entries ∷ other_entries ∷ []) no_format

@@ -1,16 +1,16 @@
 -- Profiles, tiers and levels in JSON.
 use Rattle.std.specs.Prelude.{ℕ, List, [], ◌∷◌}
-use Rattle.h26x_payload_profiles.specs.H265Level as h265_level
-use Rattle.h26x_payload_profiles.specs.H265Names as h265_names
-use Rattle.h26x_payload_profiles.specs.H265Profile as h265_profile
-use Rattle.h26x_payload_profiles.specs.H265ProfileTierLevel.{H265ProfileTierLevel}
-use Rattle.h26x_payload_profiles.specs.H266Level as h266_level
-use Rattle.h26x_payload_profiles.specs.H266Names as h266_names
-use Rattle.h26x_payload_profiles.specs.H266Profile as h266_profile
-use Rattle.h26x_payload_profiles.specs.H266ProfileTierLevel.{H266ProfileTierLevel}
-use Rattle.h26x_payload_profiles.specs.ProfileTierLevel.{fallback}
-use Rattle.h26x_payload_profiles.specs.Tier.{tier_name, tiers}
-use Rattle.h26x_payload_profiles.specs.declared.profile_tier_level.ProfileTierLevel.{ProfileTierLevel}
+use Rattle.media_types.specs.H265Level as h265_level
+use Rattle.media_types.specs.H265Names as h265_names
+use Rattle.media_types.specs.H265Profile as h265_profile
+use Rattle.media_types.specs.H265ProfileTierLevel.{H265ProfileTierLevel}
+use Rattle.media_types.specs.H266Level as h266_level
+use Rattle.media_types.specs.H266Names as h266_names
+use Rattle.media_types.specs.H266Profile as h266_profile
+use Rattle.media_types.specs.H266ProfileTierLevel.{H266ProfileTierLevel}
+use Rattle.media_types.specs.ProfileTierLevel.{fallback}
+use Rattle.media_types.specs.Tier.{tier_name, tiers}
+use Rattle.media_types.specs.declared.profile_tier_level.ProfileTierLevel.{ProfileTierLevel}
 use Rattle.sdp_formats_json.specs.Shapes.{Shape, word_of}
 use Rattle.sdp_formats_json.specs.Entries.{Entry, entry, object_of}
 use Rattle.sdp_formats_json.specs.declared.error.Field.TheVariants as field

@@ -3,7 +3,7 @@ use Rattle.std.specs.Prelude.{ℕ, List, codes}
 use Rattle.sdp_formats_json.specs.declared.error.Field.{Field}
 use Rattle.sdp_formats_json.specs.declared.error.Field.TheVariants as field
 
--- The name of a field, as JSON has it.
+-- A field's name in JSON.
 unfoldable pub field_name : Field → List ℕ
 field_name field.Pt = codes "pt"
 field_name field.Resend = codes "resend"

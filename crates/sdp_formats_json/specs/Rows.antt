@@ -63,7 +63,7 @@ of_read f None = Err NotJson
 unfoldable pub row_of_text : List ℕ → Result Row JsonError
 row_of_text text = of_read row_of_data (read text)
 
--- A reader answers as is said, or that memory ran out.
+-- A reader returns this, or Memory.
 abbrev pub Answers : {A : Type 0} → Result A JsonError → Result A JsonError → Type 0
 Answers (Err Memory) said = Unit {0}
 Answers (Err e) said = said ≡ Err e

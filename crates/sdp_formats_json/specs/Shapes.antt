@@ -1,16 +1,15 @@
--- How values stand in JSON, and what JSON is read as a value.
+-- How values are written in JSON, and how JSON is read as values.
 use Rattle.std.specs.Prelude.{ℕ, ◌^◌, ◌&&◌, Bool, true, List, Option, Some, None, Result, Ok, Err, nat_lt}
 use Rattle.std.specs.Prelude.{if◌then◌else◌, is_some, option_and_then}
 use Rattle.serde_json.specs.Data.{Data, null, boolean, number, string, unsigned}
 use Rattle.serde_json.specs.Find.{as_bool, as_null, as_number, as_str, as_u64}
-use Rattle.rtp_wire_values.specs.Time.{frequency_of}
-use Rattle.named_values.specs.Names.{with_name}
+use Rattle.rtp_wire.specs.Time.{frequency_of}
+use Rattle.media_types.specs.Names.{with_name}
 use Rattle.sdp_formats_json.specs.declared.error.Field.{Field}
 use Rattle.sdp_formats_json.specs.declared.error.JsonError.{JsonError}
 use Rattle.sdp_formats_json.specs.declared.error.JsonError.TheVariants.{Missing, Unfit, Unknown}
 
--- How values of a type stand in JSON: what is written of a value, what the data of a field are read as, and which
--- values come back.
+-- The JSON of a type: how a value is written, how a field's data is read, and which values round-trip.
 pub record Shape (A : Type 0) : Type 0 where
   pub writes : A → Data
   pub reads : Field → Data → Result A JsonError
@@ -78,7 +77,7 @@ word_of name table = record {
   fits = λ a. true;
 }
 
--- What stands under a field's name is read as a value, which has to be there.
+-- A required member is read as a value.
 abbrev pub member_read : {A : Type 0} → Shape A → Field → Option Data → Result A JsonError
 member_read shape field None = Err (Missing field)
 member_read shape field (Some d) = shape.reads field d
@@ -92,12 +91,12 @@ abbrev pub optional_fits : {A : Type 0} → Shape A → Option A → Bool
 optional_fits shape None = true
 optional_fits shape (Some a) = shape.fits a
 
--- A null is no value.
+-- A null means no value.
 abbrev pub given_read : {A : Type 0} → Shape A → Field → Data → Result (Option A) JsonError
 given_read shape field d =
     if is_some (as_null d) then Ok None else and_then (shape.reads field d) (λ a. Ok (Some a))
 
--- What stands under a field's name is read as a value that may be missing; nothing or null stands for none.
+-- An optional member is read as a value; a missing member or null means none.
 abbrev pub optional_read : {A : Type 0} → Shape A → Field → Option Data → Result (Option A) JsonError
 optional_read shape field None = Ok None
 optional_read shape field (Some d) = given_read shape field d

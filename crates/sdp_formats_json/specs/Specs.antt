@@ -1,9 +1,9 @@
 -- Codecs with their clock rates, channels and formats in JSON.
 use Rattle.std.specs.Prelude.{List, [], ◌∷◌, None}
-use Rattle.payload_core_base.specs.declared.codec.Codec.TheVariants.{Null}
-use Rattle.payload_core_base.specs.CodecNames.{variant_name as codec_name}
-use Rattle.payload_core_base.specs.Codecs.{codecs}
-use Rattle.sdp_formats_params.specs.Formats.{no_format}
+use Rattle.media_types.specs.declared.codec.Codec.TheVariants.{Null}
+use Rattle.media_types.specs.CodecNames.{variant_name as codec_name}
+use Rattle.media_types.specs.Codecs.{codecs}
+use Rattle.sdp_formats_rows.specs.Formats.{no_format}
 use Rattle.sdp_formats_rows.specs.declared.spec.CodecSpec.{CodecSpec}
 use Rattle.sdp_formats_json.specs.Shapes.{Shape, byte, rate, word_of}
 use Rattle.sdp_formats_json.specs.Entries.{Entry, entry, optional, object_of}

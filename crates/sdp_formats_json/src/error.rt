@@ -156,7 +156,7 @@ pub enum JsonError {
     /// This field is missing.
     #[error("{0} is missing")]
     Missing(Field),
-    /// The value of this field is of another type, or out of its range.
+    /// The value of this field has another type, or is out of range.
     #[error("{0} has a value of another type or out of its range")]
     Unfit(Field),
     /// The value of this field, a codec, profile, tier or level, has a name that isn't known.

@@ -2,7 +2,7 @@
 
 ghost use Rattle.std.specs.Prelude.{◌≡◌, OnOk, true};
 ghost use Rattle.serde_json.specs.View.{view, members_view};
-ghost use Rattle.sdp_formats_params.specs.Formats.{no_format};
+ghost use Rattle.sdp_formats_rows.specs.Formats.{no_format};
 ghost use Rattle.sdp_formats_json.specs.Entries.{all_fit, put_all, read_all};
 ghost use Rattle.sdp_formats_json.specs.Formats.{format, opus_entries, other_entries, video_entries};
 

@@ -5,7 +5,7 @@ ghost use Rattle.sdp_formats_json.specs.Levels.{level_of};
 use crate::error::{Field, JsonError};
 use crate::members::{named_member, put_name};
 use crate::shaped::Shaped;
-use h26x_payload_profiles::{InTable, ProfileTierLevel, TIERS};
+use media_types::{InTable, ProfileTierLevel, TIERS};
 use serde_json::{Map, Value};
 use std::alloc::{AllocError, Global};
 

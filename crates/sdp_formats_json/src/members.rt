@@ -10,7 +10,7 @@ ghost use Rattle.sdp_formats_json.specs.Shapes.{optional_read, word_of};
 
 use crate::error::{Field, JsonError};
 use crate::shaped::Shaped;
-use named_values::{Named, find_named};
+use media_types::{Named, find_named};
 use serde_json::{Map, Value};
 use std::alloc::{AllocError, Global};
 

@@ -6,7 +6,7 @@ ghost use Rattle.sdp_formats_json.specs.Specs.{blank_spec, spec};
 use crate::error::{Field, JsonError};
 use crate::members::{member, named_member, optional_member, put, put_name, put_optional};
 use crate::shaped::Shaped;
-use payload_core_base::{CODECS, Codec};
+use media_types::{CODECS, Codec};
 use rtp_wire::Frequency;
 use sdp_formats_rows::{CodecSpec, FormatParams};
 use serde_json::{Map, Value};

@@ -6,8 +6,8 @@ use Rattle.sdp_formats_grammar.specs.Cuts.{IsCut, somewhere, nowhere, cut_of}
 use Rattle.sdp_formats_grammar.specs.Form.{IsExact}
 use Rattle.sdp_formats_grammar.specs.Line.{LineOf}
 use Rattle.sdp_formats_grammar.specs.Step.{Stops, Begins, Many, Perhaps}
-use Rattle.sdp_formats_attributes.specs.Choice.{attribute_line as media_line}
-use Rattle.sdp_formats_reader.specs.Choice.{attribute_line as session_line}
+use Rattle.sdp_formats_reader.specs.AttributesChoice.{attribute_line as media_line}
+use Rattle.sdp_formats_reader.specs.ReaderChoice.{attribute_line as session_line}
 use Rattle.sdp_formats_reader.specs.declared.media.MediaHead.{MediaHead}
 use Rattle.sdp_formats_reader.specs.Lines.{version_line, origin_line, name_line, other_line, bandwidth_line}
 use Rattle.sdp_formats_reader.specs.Lines.{times_line, repeat_line, connection_line, head_line}

@@ -1,11 +1,11 @@
 -- Lines `a=candidate` of sections and of sessions are read as they are printed.
 use Rattle.std.proofs.Common.{codes, refl, ap, lit<}
 use Rattle.std.specs.Option.{option_map}
-use Rattle.sdp_formats_attributes.specs.Choice.{attribute_line}
-use Rattle.sdp_formats_attributes.specs.Choice.{media_attribute}
-use Rattle.sdp_formats_attributes.specs.Transport.{in_section, in_session}
-use Rattle.sdp_formats_attributes.specs.declared.transport.TransportAttribute.TheVariants as transport
-use Rattle.sdp_formats_reader.specs.Choice.{attribute_line as session_line, session_attribute}
+use Rattle.sdp_formats_reader.specs.AttributesChoice.{attribute_line}
+use Rattle.sdp_formats_reader.specs.AttributesChoice.{media_attribute}
+use Rattle.sdp_formats_reader.specs.Transport.{in_section, in_session}
+use Rattle.sdp_formats_reader.specs.declared.transport.TransportAttribute.TheVariants as transport
+use Rattle.sdp_formats_reader.specs.ReaderChoice.{attribute_line as session_line, session_attribute}
 use Rattle.sdp_formats_data.specs.PrintedMedia.{attribute_text}
 use Rattle.sdp_formats_data.specs.PrintedSession.{attribute_text as session_text}
 use Rattle.sdp_formats_values.specs.declared.candidate.Candidate as candidate

@@ -12,7 +12,7 @@ use Rattle.sdp_formats_values.specs.declared.candidate.RelatedAddress.{RelatedAd
 use Rattle.sdp_formats_laws.proofs.Printed.{lacks}
 use Rattle.sdp_formats_laws.specs.CandidateWords.{CandidatesAreTheirWords, IsOneWord, Spelling, Spells, named_words}
 use Rattle.sdp_formats_laws.specs.CandidateWords.{related_words, words_of}
-use Rattle.sdp_formats_laws.specs.PrintableTexts.{IsEach}
+use Rattle.sdp_formats_rounds.specs.Members.{IsEach}
 use Rattle.sdp_formats_laws.proofs.CandidateTails.{AreWords}
 use Rattle.sdp_formats_laws.proofs.CandidateTails.{words_shape}
 use Rattle.sdp_formats_laws.proofs.CandidateFound.{words_found}

@@ -2,9 +2,9 @@
 use Rattle.std.proofs.Common.{◌≡◌, ℕ, List, [], ◌∷◌, Option, Some, None, refl, sym, ap, subst}
 use Rattle.sdp_formats_reader.specs.Lines.{version_line, origin_line, name_line, other_line, bandwidth_line}
 use Rattle.sdp_formats_reader.specs.Lines.{times_line, repeat_line, connection_line, head_line}
-use Rattle.sdp_formats_attributes.specs.Choice.{attribute_line as media_line}
+use Rattle.sdp_formats_reader.specs.AttributesChoice.{attribute_line as media_line}
 use Rattle.sdp_formats_reader.specs.Grammar.{OpeningSays, TimesSay, SessionSays, SectionSays, SdpSays}
-use Rattle.sdp_formats_reader.specs.Choice.{attribute_line as session_line}
+use Rattle.sdp_formats_reader.specs.ReaderChoice.{attribute_line as session_line}
 use Rattle.sdp_formats_grammar.specs.Line.{LineOf}
 use Rattle.sdp_formats_grammar.specs.Step.{Stops, Begins, Many, Perhaps}
 

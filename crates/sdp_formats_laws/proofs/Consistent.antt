@@ -5,13 +5,13 @@ use Rattle.std.specs.List.{count_by, list_all}
 use Rattle.std.specs.Prelude.{is_none}
 use Rattle.sdp_formats_values.specs.declared.param.FormatParam.{FormatParam}
 use Rattle.sdp_formats_values.specs.declared.param.FormatParam.TheVariants as param
-use Rattle.sdp_formats_attributes.specs.AsRead.{as_read, spelled_as}
+use Rattle.sdp_formats_reader.specs.AsRead.{as_read, spelled_as}
 use Rattle.sdp_formats_data.specs.Consistency.{apt_differs, apts_agree, apts_agree_with, are_mapped}
 use Rattle.sdp_formats_data.specs.Consistency.{attribute_agrees, fault_of, gives_apt, is_consistent}
 use Rattle.sdp_formats_data.specs.Consistency.{is_direction_of, is_mapped, is_setup, is_static, maps_type}
 use Rattle.sdp_formats_data.specs.Consistency.{values_agree}
 use Rattle.sdp_formats_data.specs.Media.{is_mid}
-use Rattle.sdp_formats_data.specs.MediaTypes.{is_rtp}
+use Rattle.sdp_formats_values.specs.MediaTypes.{is_rtp}
 use Rattle.sdp_formats_data.specs.declared.Inconsistency.{Inconsistency}
 use Rattle.sdp_formats_data.specs.declared.Inconsistency.TheVariants as fault
 use Rattle.sdp_formats_data.specs.declared.media.MediaAttribute.{MediaAttribute}

@@ -7,7 +7,8 @@ use Rattle.sdp_formats_data.specs.Sources.{repairing_in, source_in}
 use Rattle.sdp_formats_laws.proofs.Decided.{numbers}
 use Rattle.sdp_formats_laws.proofs.EachOnce.{one_list}
 use Rattle.sdp_formats_laws.proofs.Filtered.{filtered, let_through}
-use Rattle.sdp_formats_laws.specs.EachOnce.{AreDistinct, IsEachOnce, IsFirstBefore, IsIn}
+use Rattle.sdp_formats_laws.specs.EachOnce.{AreDistinct, IsEachOnce, IsFirstBefore}
+use Rattle.sdp_formats_rounds.specs.Members.{IsIn}
 use Rattle.sdp_formats_laws.specs.Sources.{SourcesAreEachOnce}
 
 -- one number's first place is before another's: not that of the other is first, but that of the one, or it is so behind

@@ -3,7 +3,8 @@ use Rattle.std.proofs.Common.{◌≡◌, ◌⊎◌, inl, inr, ◌↔◌, List, [
 use Rattle.std.proofs.Common.{append-nil}
 use Rattle.std.specs.List.{FoldsTo}
 use Rattle.sdp_formats_laws.proofs.Decided.{Decided}
-use Rattle.sdp_formats_laws.specs.EachOnce.{AreDistinct, IsEachOnce, IsFirstBefore, IsIn}
+use Rattle.sdp_formats_laws.specs.EachOnce.{AreDistinct, IsEachOnce, IsFirstBefore}
+use Rattle.sdp_formats_rounds.specs.Members.{IsIn}
 
 -- members of lists behind one another
 pub in_front : {A : Type 0} (x : A) (xs ys : List A) → IsIn x xs → IsIn x (xs ++ ys)

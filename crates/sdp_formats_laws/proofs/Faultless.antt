@@ -10,11 +10,11 @@ use Rattle.sdp_formats_data.specs.declared.Inconsistency.{Inconsistency}
 use Rattle.sdp_formats_data.specs.declared.Inconsistency.TheVariants as fault
 use Rattle.sdp_formats_rounds.specs.Types.{listed}
 use Rattle.sdp_formats_rows.specs.Rows.{Row}
-use Rattle.sdp_formats_data.specs.MediaTypes.{is_rtp}
+use Rattle.sdp_formats_values.specs.MediaTypes.{is_rtp}
 use Rattle.sdp_formats_data.specs.declared.media.MediaLine.{MediaLine}
-use Rattle.sdp_formats_laws.specs.PrintableTexts.{IsEach}
+use Rattle.sdp_formats_rounds.specs.Members.{IsEach}
 use Rattle.sdp_formats_laws.specs.Rows.{EachListsRows, HasOneOfEach, ListedRowsHaveNoFault}
-use Rattle.sdp_formats_laws.specs.RowsBack.{types_in}
+use Rattle.sdp_formats_rounds.specs.TypeLaws.{types_in}
 use Rattle.sdp_formats_laws.proofs.MappedOnce.{all_mapped}
 use Rattle.sdp_formats_laws.proofs.OneOriginal.{all_agreed}
 

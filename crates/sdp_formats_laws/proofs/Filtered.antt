@@ -2,7 +2,7 @@
 use Rattle.std.proofs.Common.{◌≡◌, ◌⊎◌, inl, inr, ℕ, Bool, true, false, List, [], ◌∷◌, cond, filter, sym, ◌∙◌, ap}
 use Rattle.std.proofs.Common.{subst}
 use Rattle.std.proofs.lemmas.Bool.{cases_Bool}
-use Rattle.sdp_formats_laws.specs.EachOnce.{IsIn}
+use Rattle.sdp_formats_rounds.specs.Members.{IsIn}
 
 pub filtered : (p : ℕ → Bool) (t : ℕ) (ts : List ℕ) → IsIn t (filter p ts) → IsIn t ts × (p t ≡ true)
 filtered p t [] h = absurd h

@@ -9,7 +9,7 @@ use Rattle.sdp_formats_grammar.specs.Bind.{◌>>=◌}
 use Rattle.sdp_formats_grammar.specs.Form.{any_text, separated, told}
 use Rattle.sdp_formats_grammar.specs.Joined.{joined, octet_text}
 use Rattle.sdp_formats_grammar.specs.Split.{Lacks}
-use Rattle.sdp_formats_attributes.specs.Digest.{hex_digit, hex_byte, fingerprint}
+use Rattle.sdp_formats_reader.specs.Digest.{hex_digit, hex_byte, fingerprint}
 use Rattle.sdp_formats_values.specs.Fingerprints.{make_fingerprint}
 use Rattle.sdp_formats_laws.proofs.PlainKinds.{lacks_two}
 use Rattle.sdp_formats_laws.proofs.Printed.{lacks_both, text_some}

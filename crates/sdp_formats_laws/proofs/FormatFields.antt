@@ -5,10 +5,10 @@ use Rattle.std.specs.Str.{trim}
 use Rattle.std.proofs.lemmas.Fmt.{decimal_is_IsNumeral}
 use Rattle.sdp_formats_grammar.specs.Cuts.{parts-at, parts-whole}
 use Rattle.sdp_formats_grammar.specs.Split.{Lacks, parts}
-use Rattle.sdp_formats_params.specs.Formats.{replaced, with_fields}
-use Rattle.sdp_formats_params.specs.LineValues.{field_value, gives_level, has_level, is_key}
-use Rattle.sdp_formats_params.specs.Formats.{with_key, with_range}
-use Rattle.sdp_formats_params.specs.declared.format.FormatParams.{FormatParams}
+use Rattle.sdp_formats_rows.specs.Formats.{replaced, with_fields}
+use Rattle.sdp_formats_rows.specs.LineValues.{field_value, gives_level, has_level, is_key}
+use Rattle.sdp_formats_rows.specs.Formats.{with_key, with_range}
+use Rattle.sdp_formats_rows.specs.declared.format.FormatParams.{FormatParams}
 use Rattle.sdp_formats_values.specs.Keys.{key_named, is_name_of}
 use Rattle.sdp_formats_values.specs.Numbers.{numeral_below, range_of}
 use Rattle.sdp_formats_values.specs.PrintedParameters.{flag_digit, pair_text, param_text, six_digits}
@@ -17,7 +17,7 @@ use Rattle.sdp_formats_values.specs.declared.key.Key.TheVariants as key
 use Rattle.sdp_formats_values.specs.declared.pairs.Pair.{Pair}
 use Rattle.sdp_formats_values.specs.declared.param.FormatParam.{FormatParam}
 use Rattle.sdp_formats_values.specs.declared.param.FormatParam.TheVariants as param
-use Rattle.sdp_formats_params.specs.OneParam.{with_codec_param}
+use Rattle.sdp_formats_rows.specs.OneParam.{with_codec_param}
 use Rattle.sdp_formats_laws.proofs.KeyedParams.{byte_back, don_back, flag_back, key_is, level_back, value_is}
 use Rattle.sdp_formats_laws.proofs.ModeSets.{modes_back, modes_graphic}
 use Rattle.sdp_formats_laws.proofs.Numerals.{decimal_read, six_numeral}
@@ -92,14 +92,7 @@ key_graphic (param.SpropMaxDonDiff v) h = part_key (codes "sprop-max-don-diff") 
 key_graphic (param.OctetAlign v) h = part_key (codes "octet-align") refl
 key_graphic (param.ModeSet v) h = part_key (codes "mode-set") refl
 key_graphic (param.Apt v) h = part_key (codes "apt") refl
-key_graphic (param.H265ProfileTierLevel v) h = absurd h
-key_graphic (param.H266ProfileTierLevel v) h = absurd h
-key_graphic (param.TelephoneEvents v) h = absurd h
-key_graphic (param.BareRange v) h = absurd h
-key_graphic (param.BarePtList v) h = absurd h
-key_graphic param.AmrWbUnsupported h = absurd h
-key_graphic (param.Red v) h = absurd h
-key_graphic param.Unknown h = absurd h
+key_graphic _ h = absurd h
 
 pub decimal_graphic : (n : ℕ) → n < 2 ^ 64 → AreGraphic (decimal n)
 decimal_graphic n small = digits_graphic 10 (decimal n) (lit≤ tt) (decimal_is_IsNumeral n small).0.1
@@ -128,14 +121,7 @@ value_graphic (param.SpropMaxDonDiff v) h = decimal_graphic v (omega (h, arith))
 value_graphic (param.OctetAlign v) h = flag_graphic v
 value_graphic (param.ModeSet v) h = modes_graphic v h
 value_graphic (param.Apt v) h = decimal_graphic v (omega (h, arith))
-value_graphic (param.H265ProfileTierLevel v) h = absurd h
-value_graphic (param.H266ProfileTierLevel v) h = absurd h
-value_graphic (param.TelephoneEvents v) h = absurd h
-value_graphic (param.BareRange v) h = absurd h
-value_graphic (param.BarePtList v) h = absurd h
-value_graphic param.AmrWbUnsupported h = absurd h
-value_graphic (param.Red v) h = absurd h
-value_graphic param.Unknown h = absurd h
+value_graphic _ h = absurd h
 
 pub keyed_field : (p : FormatParam) → IsKeyed p → IsField (pair_of p)
 keyed_field p h = record {
@@ -231,12 +217,5 @@ part_read last (param.OctetAlign v) f h =
 part_read last (param.ModeSet v) f h =
     field_read last (pair_of (param.ModeSet v)) f (keyed_field (param.ModeSet v) h)
     ∙ ap (λ o. record f { mode_set = replaced last f.mode_set o }) ((modes_back v h).0)
-part_read last (param.Apt v) f h = absurd h
-part_read last (param.H265ProfileTierLevel v) f h = absurd h
-part_read last (param.H266ProfileTierLevel v) f h = absurd h
 part_read last (param.TelephoneEvents v) f h = range_read last v f h
-part_read last (param.BareRange v) f h = absurd h
-part_read last (param.BarePtList v) f h = absurd h
-part_read last param.AmrWbUnsupported f h = absurd h
-part_read last (param.Red v) f h = absurd h
-part_read last param.Unknown f h = absurd h
+part_read last _ f h = absurd h

@@ -4,7 +4,7 @@ use Rattle.std.proofs.Common.{find, cond, refl, sym, ◌∙◌, ap, subst}
 use Rattle.std.specs.Str.{bytes_eq}
 use Rattle.std.proofs.lemmas.Bool.{cases_Bool, false≢true}
 use Rattle.std.proofs.lemmas.Slice.Eq.{bytes_eq-Decides}
-use Rattle.sdp_formats_params.specs.LineValues.{has_level, is_key}
+use Rattle.sdp_formats_rows.specs.LineValues.{has_level, is_key}
 use Rattle.sdp_formats_values.specs.Keys.{all_keys, is_name_of, key_name, key_named}
 use Rattle.sdp_formats_values.specs.declared.key.Key.{Key}
 use Rattle.sdp_formats_values.specs.declared.key.Key.TheVariants as key
@@ -24,22 +24,7 @@ found {A} test x (y ∷ ys) e = at (cases_Bool (test y)) (found test x ys)
 -- the names are different, in any ASCII case
 by_name : (k : Key) → find (λ other. bytes_eq (lower (key_name other)) (lower (key_name k))) all_keys ≡ Some k
 by_name key.MinPTime = refl
-by_name key.Stereo = refl
-by_name key.SpropStereo = refl
-by_name key.UseInbandFec = refl
-by_name key.UseDtx = refl
-by_name key.LevelAsymmetryAllowed = refl
-by_name key.PacketizationMode = refl
-by_name key.ProfileLevelId = refl
-by_name key.ProfileId = refl
-by_name key.Profile = refl
-by_name key.LevelIdx = refl
-by_name key.Tier = refl
-by_name key.SpropMaxDonDiff = refl
-by_name key.OctetAlign = refl
-by_name key.ModeSet = refl
-by_name key.TierFlag = refl
-by_name key.LevelId = refl
+by_name _ = refl
 
 named_so : (k : Key) (text : List ℕ) → is_name_of k text ≡ true → key_named text ≡ Some k
 unfolding key_named is_name_of
@@ -73,41 +58,11 @@ key_same k text = at (key_named text) refl (cases_Bool (is_name_of k text))
 pub level_keys : (o : Option Key) → has_level o ≡ (is_key key.TierFlag o || is_key key.LevelId o)
 level_keys None = refl
 level_keys (Some key.MinPTime) = refl
-level_keys (Some key.Stereo) = refl
-level_keys (Some key.SpropStereo) = refl
-level_keys (Some key.UseInbandFec) = refl
-level_keys (Some key.UseDtx) = refl
-level_keys (Some key.LevelAsymmetryAllowed) = refl
-level_keys (Some key.PacketizationMode) = refl
-level_keys (Some key.ProfileLevelId) = refl
-level_keys (Some key.ProfileId) = refl
-level_keys (Some key.Profile) = refl
-level_keys (Some key.LevelIdx) = refl
-level_keys (Some key.Tier) = refl
-level_keys (Some key.SpropMaxDonDiff) = refl
-level_keys (Some key.OctetAlign) = refl
-level_keys (Some key.ModeSet) = refl
-level_keys (Some key.TierFlag) = refl
-level_keys (Some key.LevelId) = refl
+level_keys (Some _) = refl
 
 in_lower : (k : Key) → lower (key_name k) ≡ key_name k
 in_lower key.MinPTime = refl
-in_lower key.Stereo = refl
-in_lower key.SpropStereo = refl
-in_lower key.UseInbandFec = refl
-in_lower key.UseDtx = refl
-in_lower key.LevelAsymmetryAllowed = refl
-in_lower key.PacketizationMode = refl
-in_lower key.ProfileLevelId = refl
-in_lower key.ProfileId = refl
-in_lower key.Profile = refl
-in_lower key.LevelIdx = refl
-in_lower key.Tier = refl
-in_lower key.SpropMaxDonDiff = refl
-in_lower key.OctetAlign = refl
-in_lower key.ModeSet = refl
-in_lower key.TierFlag = refl
-in_lower key.LevelId = refl
+in_lower _ = refl
 
 pub name_in_lower : (k : Key) (text : List ℕ) → (is_name_of k text ≡ true) ↔ (lower text ≡ key_name k)
 unfolding is_name_of

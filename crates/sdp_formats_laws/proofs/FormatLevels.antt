@@ -6,10 +6,10 @@ use Rattle.std.specs.Prelude.{fold}
 use Rattle.std.specs.List.{list_any}
 use Rattle.sdp_formats_grammar.specs.Joined.{joined}
 use Rattle.sdp_formats_grammar.specs.Split.{Lacks, parts}
-use Rattle.sdp_formats_params.specs.Formats.{format_of}
-use Rattle.sdp_formats_params.specs.LineValues.{gives_level, is_key, last_value}
-use Rattle.sdp_formats_params.specs.Formats.{no_format, with_parts, with_values}
-use Rattle.sdp_formats_params.specs.declared.format.FormatParams.{FormatParams}
+use Rattle.sdp_formats_rows.specs.Formats.{format_of}
+use Rattle.sdp_formats_rows.specs.LineValues.{gives_level, is_key, last_value}
+use Rattle.sdp_formats_rows.specs.Formats.{no_format, with_parts, with_values}
+use Rattle.sdp_formats_rows.specs.declared.format.FormatParams.{FormatParams}
 use Rattle.sdp_formats_values.specs.Keys.{key_named, is_name_of}
 use Rattle.sdp_formats_values.specs.PrintedParameters.{pair_text, param_text}
 use Rattle.sdp_formats_values.specs.declared.key.Key.{Key}
@@ -24,7 +24,7 @@ use Rattle.sdp_formats_laws.proofs.LevelPairs.{level_pairs}
 use Rattle.sdp_formats_laws.proofs.Numerals.{decimal_value}
 use Rattle.sdp_formats_laws.proofs.Printed.{lacks}
 use Rattle.sdp_formats_laws.specs.Keyed.{pair}
-use Rattle.sdp_formats_laws.specs.PrintableTexts.{IsEach}
+use Rattle.sdp_formats_rounds.specs.Members.{IsEach}
 
 -- a profile, tier and level of three parts
 pub level_field : (name : List ℕ) (n : ℕ) → is_part_key name ≡ true → Lacks 61 name → n < 256

@@ -8,21 +8,21 @@ use Rattle.std.specs.Str.{trim}
 use Rattle.std.specs.Str.Parse.{without_leading_plus, digits_value}
 use Rattle.std.proofs.lemmas.Bool.Decides.{nat_tests}
 use Rattle.std.proofs.lemmas.Nat.{or_lt, le_or_r, pow_below, pow_pos}
-use Rattle.h26x_payload_profiles.specs.H265ProfileTierLevel.{H265ProfileTierLevel as Level265}
-use Rattle.h26x_payload_profiles.specs.H266ProfileTierLevel.{H266ProfileTierLevel as Level266}
-use Rattle.h26x_payload_profiles.specs.H265ProfileTierLevel.{given as given_265}
-use Rattle.h26x_payload_profiles.specs.H266ProfileTierLevel.{given as given_266}
+use Rattle.media_types.specs.H265ProfileTierLevel.{H265ProfileTierLevel as Level265}
+use Rattle.media_types.specs.H266ProfileTierLevel.{H266ProfileTierLevel as Level266}
+use Rattle.media_types.specs.H265ProfileTierLevel.{given as given_265}
+use Rattle.media_types.specs.H266ProfileTierLevel.{given as given_266}
 use Rattle.sdp_formats_grammar.specs.Split.{parts, onto_first}
 use Rattle.sdp_formats_values.specs.Keys.{key_named}
 use Rattle.sdp_formats_values.specs.Numbers.{are_digits, numeral_below, or_else, up_to, with_mode, with_modes}
 use Rattle.sdp_formats_values.specs.Numbers.{modes_of, behind, range_end, range_of}
 use Rattle.sdp_formats_values.specs.declared.key.Key.{Key}
 use Rattle.sdp_formats_values.specs.declared.key.Key.TheVariants as key
-use Rattle.sdp_formats_params.specs.Formats.{no_format, replaced, with_value, with_key, with_range, with_fields}
-use Rattle.sdp_formats_params.specs.Formats.{with_parts}
-use Rattle.sdp_formats_params.specs.Formats.{with_level, with_values, level_format, format_of}
-use Rattle.sdp_formats_params.specs.LineValues.{gives_level, last_value}
-use Rattle.sdp_formats_params.specs.declared.format.FormatParams.{FormatParams}
+use Rattle.sdp_formats_rows.specs.Formats.{no_format, replaced, with_value, with_key, with_range, with_fields}
+use Rattle.sdp_formats_rows.specs.Formats.{with_parts}
+use Rattle.sdp_formats_rows.specs.Formats.{with_level, with_values, level_format, format_of}
+use Rattle.sdp_formats_rows.specs.LineValues.{gives_level, last_value}
+use Rattle.sdp_formats_rows.specs.declared.format.FormatParams.{FormatParams}
 use Rattle.sdp_formats_rounds.specs.Ranges.{IsModes, IsInRange, AtMostOne}
 
 -- a number that was read is below its limit

@@ -3,10 +3,10 @@ use Rattle.std.proofs.Common.{◌≡◌, ℕ, Bool, true, false, List, [], ◌�
 use Rattle.std.proofs.Common.{if◌then◌else◌}
 use Rattle.std.specs.List.{cons_option, last_or}
 use Rattle.std.specs.Str.{trim}
-use Rattle.sdp_formats_params.specs.Formats.{is_on, replaced, with_fields, with_key, with_parts, with_range}
-use Rattle.sdp_formats_params.specs.LineValues.{is_key}
-use Rattle.sdp_formats_params.specs.Formats.{word_value}
-use Rattle.sdp_formats_params.specs.declared.format.FormatParams.{FormatParams}
+use Rattle.sdp_formats_rows.specs.Formats.{is_on, replaced, with_fields, with_key, with_parts, with_range}
+use Rattle.sdp_formats_rows.specs.LineValues.{is_key}
+use Rattle.sdp_formats_rows.specs.Formats.{word_value}
+use Rattle.sdp_formats_rows.specs.declared.format.FormatParams.{FormatParams}
 use Rattle.sdp_formats_grammar.specs.Split.{parts}
 use Rattle.sdp_formats_values.specs.Keys.{key_named}
 use Rattle.sdp_formats_values.specs.Numbers.{modes_of, profile_level, range_of}
@@ -55,25 +55,9 @@ more is value values k = cons_option (if is k then Some value else None) (values
 key_step : (last : Bool) (o : Option Key) (value : List ℕ) (values : Key → List (List ℕ)) (ranges : List ℕ)
     (f : FormatParams) → behind last values ranges (with_key last o value f)
     ≡ behind last (more (λ k. is_key k o) value values) ranges f
-key_step last None value values ranges f = refl
-key_step last (Some key.MinPTime) value values ranges f = refl
-key_step last (Some key.Stereo) value values ranges f = refl
-key_step last (Some key.SpropStereo) value values ranges f = refl
-key_step last (Some key.UseInbandFec) value values ranges f = refl
-key_step last (Some key.UseDtx) value values ranges f = refl
-key_step last (Some key.LevelAsymmetryAllowed) value values ranges f = refl
-key_step last (Some key.PacketizationMode) value values ranges f = refl
-key_step last (Some key.ProfileLevelId) value values ranges f = refl
 key_step true (Some key.ProfileId) value values ranges f = refl
 key_step false (Some key.ProfileId) value values ranges f = refl
-key_step last (Some key.Profile) value values ranges f = refl
-key_step last (Some key.LevelIdx) value values ranges f = refl
-key_step last (Some key.Tier) value values ranges f = refl
-key_step last (Some key.SpropMaxDonDiff) value values ranges f = refl
-key_step last (Some key.OctetAlign) value values ranges f = refl
-key_step last (Some key.ModeSet) value values ranges f = refl
-key_step last (Some key.TierFlag) value values ranges f = refl
-key_step last (Some key.LevelId) value values ranges f = refl
+key_step last _ value values ranges f = refl
 
 range_step : (last : Bool) (o : Option ℕ) (values : Key → List (List ℕ)) (ranges : List ℕ) (f : FormatParams)
     → behind last values ranges (with_range o f) ≡ behind last values (cons_option o ranges) f

@@ -8,11 +8,11 @@ use Rattle.std.specs.Str.{trim, trim_start, trim_end, chars}
 use Rattle.sdp_formats_grammar.specs.Cuts.{parts-at, parts-whole}
 use Rattle.sdp_formats_grammar.specs.Joined.{joined}
 use Rattle.sdp_formats_grammar.specs.Split.{Lacks, parts}
-use Rattle.sdp_formats_params.specs.Formats.{format_of}
-use Rattle.sdp_formats_params.specs.LineValues.{field_value, gives_level, has_level, is_key, last_value}
-use Rattle.sdp_formats_params.specs.Formats.{level_format}
-use Rattle.sdp_formats_params.specs.Formats.{no_format, with_parts, with_values}
-use Rattle.sdp_formats_params.specs.declared.format.FormatParams.{FormatParams}
+use Rattle.sdp_formats_rows.specs.Formats.{format_of}
+use Rattle.sdp_formats_rows.specs.LineValues.{field_value, gives_level, has_level, is_key, last_value}
+use Rattle.sdp_formats_rows.specs.Formats.{level_format}
+use Rattle.sdp_formats_rows.specs.Formats.{no_format, with_parts, with_values}
+use Rattle.sdp_formats_rows.specs.declared.format.FormatParams.{FormatParams}
 use Rattle.sdp_formats_values.specs.Keys.{key_named, is_name_of}
 use Rattle.sdp_formats_values.specs.Params.{is_level}
 use Rattle.sdp_formats_values.specs.PrintedParameters.{pair_text, param_text}
@@ -26,7 +26,7 @@ use Rattle.sdp_formats_laws.proofs.FormatFields.{keyed_field, part_read, range_f
 use Rattle.sdp_formats_laws.proofs.Numerals.{decimal_value}
 use Rattle.sdp_formats_laws.proofs.Printed.{lacks_both}
 use Rattle.sdp_formats_laws.specs.Keyed.{pair_of}
-use Rattle.sdp_formats_laws.specs.PrintableTexts.{IsEach}
+use Rattle.sdp_formats_rounds.specs.Members.{IsEach}
 
 -- parts with semicolons between
 pub each_part : (t : List ℕ) (ts : List (List ℕ)) → IsEach (Lacks 59) (t ∷ ts)
@@ -119,15 +119,8 @@ part_passed last (param.OctetAlign v) h = passed_pair last (pair_of (param.Octet
     (keyed_field (param.OctetAlign v) tt) refl (λ e. refl) refl refl
 part_passed last (param.ModeSet v) h = passed_pair last (pair_of (param.ModeSet v))
     (keyed_field (param.ModeSet v) h) refl (λ e. refl) refl refl
-part_passed last (param.H265ProfileTierLevel v) h = absurd h
-part_passed last (param.H266ProfileTierLevel v) h = absurd h
 part_passed last (param.TelephoneEvents v) h = range_passed last v h
-part_passed last (param.BareRange v) h = absurd h
-part_passed last (param.BarePtList v) h = absurd h
-part_passed last param.AmrWbUnsupported h = absurd h
-part_passed last (param.Red v) h = absurd h
-part_passed last (param.Apt v) h = absurd h
-part_passed last param.Unknown h = absurd h
+part_passed last _ h = absurd h
 
 -- a list of parameters in front of other parts
 pub each_passed : (last : Bool) (ps : List FormatParam) → IsEach (IsPart last) ps

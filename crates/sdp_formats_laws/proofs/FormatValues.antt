@@ -4,12 +4,12 @@ use Rattle.std.proofs.Common.{codes, refl, sym, ◌∙◌, ap, subst, if◌then�
 use Rattle.std.proofs.Common.{option_and_then, option_map}
 use Rattle.std.specs.List.{cons_option, last_or, list_any}
 use Rattle.std.specs.Str.{bytes_eq, trim}
-use Rattle.h26x_payload_profiles.specs.H265ProfileTierLevel.{H265ProfileTierLevel as Level265, given as given_265}
-use Rattle.h26x_payload_profiles.specs.H266ProfileTierLevel.{H266ProfileTierLevel as Level266, given as given_266}
-use Rattle.sdp_formats_params.specs.Formats as format
-use Rattle.sdp_formats_params.specs.LineValues as keyed
-use Rattle.sdp_formats_params.specs.Formats.{format_of, no_format, replaced, with_level, word_value}
-use Rattle.sdp_formats_params.specs.declared.format.FormatParams.{FormatParams}
+use Rattle.media_types.specs.H265ProfileTierLevel.{H265ProfileTierLevel as Level265, given as given_265}
+use Rattle.media_types.specs.H266ProfileTierLevel.{H266ProfileTierLevel as Level266, given as given_266}
+use Rattle.sdp_formats_rows.specs.Formats as format
+use Rattle.sdp_formats_rows.specs.LineValues as keyed
+use Rattle.sdp_formats_rows.specs.Formats.{format_of, no_format, replaced, with_level, word_value}
+use Rattle.sdp_formats_rows.specs.declared.format.FormatParams.{FormatParams}
 use Rattle.sdp_formats_grammar.specs.Split.{parts}
 use Rattle.sdp_formats_values.specs.Keys.{is_name_of, key_named}
 use Rattle.sdp_formats_values.specs.Numbers.{modes_of, profile_level}

@@ -5,12 +5,12 @@ use Rattle.std.specs.Char.{to_ascii_lowercase}
 use Rattle.std.specs.List.{flat_map}
 use Rattle.std.specs.Option.{option_map, option_to_list}
 use Rattle.std.proofs.lemmas.Grind.{flat_map-append}
-use Rattle.h26x_payload_profiles.specs.H265ProfileTierLevel.{H265ProfileTierLevel as Level265}
-use Rattle.h26x_payload_profiles.specs.H266ProfileTierLevel.{H266ProfileTierLevel as Level266}
+use Rattle.media_types.specs.H265ProfileTierLevel.{H265ProfileTierLevel as Level265}
+use Rattle.media_types.specs.H266ProfileTierLevel.{H266ProfileTierLevel as Level266}
 use Rattle.sdp_formats_values.specs.declared.param.FormatParam.{FormatParam}
 use Rattle.sdp_formats_values.specs.declared.param.FormatParam.TheVariants as param
-use Rattle.sdp_formats_params.specs.declared.format.FormatParams.{FormatParams}
-use Rattle.sdp_formats_params.specs.Parameters.{each_param, params_of}
+use Rattle.sdp_formats_rows.specs.declared.format.FormatParams.{FormatParams}
+use Rattle.sdp_formats_rows.specs.Parameters.{each_param, params_of}
 use Rattle.sdp_formats_laws.proofs.KeyRanks.{rank, rank_of, ranked}
 use Rattle.sdp_formats_laws.specs.Keyed.{AreKeyed, IsKeyed, IsOrdinary, pair_of}
 use Rattle.sdp_formats_laws.specs.ParameterLists.{AreOrdinary, HasOneLevel, LackKeyOf}

@@ -7,21 +7,21 @@ use Rattle.std.specs.List.{flat_map}
 use Rattle.std.specs.Option.{option_map, option_to_list}
 use Rattle.std.proofs.lemmas.List.{map-append}
 use Rattle.std.proofs.lemmas.List.Sums.{fold-append}
-use Rattle.h26x_payload_profiles.specs.H265ProfileTierLevel.{ComesBack as ComesBack265}
-use Rattle.h26x_payload_profiles.specs.H266ProfileTierLevel.{ComesBack as ComesBack266}
-use Rattle.h26x_payload_profiles.specs.H265Level.{level_id as level_265}
-use Rattle.h26x_payload_profiles.specs.H265Profile.{profile_id as profile_265}
-use Rattle.h26x_payload_profiles.specs.Tier.{tier_flag}
-use Rattle.h26x_payload_profiles.specs.H266Level.{level_id as level_266}
-use Rattle.h26x_payload_profiles.specs.H266Profile.{profile_id as profile_266}
-use Rattle.h26x_payload_profiles.specs.H265ProfileTierLevel.{H265ProfileTierLevel as Level265}
-use Rattle.h26x_payload_profiles.specs.H266ProfileTierLevel.{H266ProfileTierLevel as Level266}
+use Rattle.media_types.specs.H265ProfileTierLevel.{ComesBack as ComesBack265}
+use Rattle.media_types.specs.H266ProfileTierLevel.{ComesBack as ComesBack266}
+use Rattle.media_types.specs.H265Level.{level_id as level_265}
+use Rattle.media_types.specs.H265Profile.{profile_id as profile_265}
+use Rattle.media_types.specs.Tier.{tier_flag}
+use Rattle.media_types.specs.H266Level.{level_id as level_266}
+use Rattle.media_types.specs.H266Profile.{profile_id as profile_266}
+use Rattle.media_types.specs.H265ProfileTierLevel.{H265ProfileTierLevel as Level265}
+use Rattle.media_types.specs.H266ProfileTierLevel.{H266ProfileTierLevel as Level266}
 use Rattle.sdp_formats_grammar.specs.Joined.{joined}
-use Rattle.sdp_formats_params.specs.Formats.{format_of}
-use Rattle.sdp_formats_params.specs.Formats.{no_format, with_level, with_values}
-use Rattle.sdp_formats_params.specs.Parameters.{each_param}
-use Rattle.sdp_formats_params.specs.Texts.{format_text}
-use Rattle.sdp_formats_params.specs.declared.format.FormatParams.{FormatParams}
+use Rattle.sdp_formats_rows.specs.Formats.{format_of}
+use Rattle.sdp_formats_rows.specs.Formats.{no_format, with_level, with_values}
+use Rattle.sdp_formats_rows.specs.Parameters.{each_param}
+use Rattle.sdp_formats_rows.specs.Texts.{format_text}
+use Rattle.sdp_formats_rows.specs.declared.format.FormatParams.{FormatParams}
 use Rattle.sdp_formats_values.specs.Params.{level_param}
 use Rattle.sdp_formats_values.specs.PrintedParameters.{pair_text, param_text}
 use Rattle.sdp_formats_values.specs.declared.param.FormatParam.{FormatParam}
@@ -35,7 +35,7 @@ use Rattle.sdp_formats_laws.proofs.LevelNumbers.{reads_265, reads_266}
 use Rattle.sdp_formats_laws.proofs.LevelPairs.{level_shape}
 use Rattle.sdp_formats_laws.specs.Keyed.{pair}
 use Rattle.sdp_formats_laws.specs.PrintedParameters.{FormatsComeBack}
-use Rattle.sdp_formats_laws.specs.PrintableTexts.{IsEach}
+use Rattle.sdp_formats_rounds.specs.Members.{IsEach}
 use Rattle.sdp_formats_rounds.specs.Ranges.{AtMostOne, IsInRange}
 use Rattle.sdp_formats_laws.proofs.FormatLevels.{fields_of, level_line, level_texts}
 

@@ -19,7 +19,7 @@ use Rattle.sdp_formats_reader.specs.Lines.{version_line, origin_line, name_line,
 use Rattle.sdp_formats_reader.specs.Lines.{connection_line, passed, make_bandwidth}
 use Rattle.sdp_formats_values.specs.PrintedValues.{line_end}
 use Rattle.sdp_formats_values.specs.Lists.{bandwidth_text, numbers_text, named}
-use Rattle.sdp_formats_data.specs.declared.Bandwidth.{Bandwidth}
+use Rattle.sdp_formats_values.specs.declared.bandwidth.Bandwidth.{Bandwidth}
 use Rattle.sdp_formats_laws.proofs.Decimals.{own, number_below-decimal, Lacks-decimal}
 use Rattle.sdp_formats_laws.proofs.Printed.{IsPrintedAs, named_line, named_by, fixed_line, two_parts, at_text}
 use Rattle.sdp_formats_laws.proofs.Printed.{text_some}

@@ -5,14 +5,14 @@ use Rattle.std.specs.List.{list_any}
 use Rattle.std.specs.Option.{option_map, option_or}
 use Rattle.sdp_formats_grammar.specs.Joined.{each_behind, joined}
 use Rattle.sdp_formats_grammar.specs.Split.{Lacks}
-use Rattle.sdp_formats_attributes.specs.PrintedPairs.{ArePairs, PairsComeBack, pairs_text}
+use Rattle.sdp_formats_reader.specs.PrintedPairs.{ArePairs, PairsComeBack, pairs_text}
 use Rattle.sdp_formats_values.specs.Params.{gives_level, level_params, pair_param, params_of}
 use Rattle.sdp_formats_values.specs.PrintedParameters.{pair_text, param_text}
 use Rattle.sdp_formats_values.specs.declared.pairs.Pair.{Pair}
 use Rattle.sdp_formats_values.specs.declared.param.FormatParam.{FormatParam}
 use Rattle.sdp_formats_values.specs.declared.param.FormatParam.TheVariants as param
-use Rattle.sdp_formats_attributes.specs.AsRead.{is_level, is_other, params_as_read, spelled_as}
-use Rattle.sdp_formats_attributes.specs.Parameters.{parameters}
+use Rattle.sdp_formats_reader.specs.AsRead.{is_level, is_other, params_as_read, spelled_as}
+use Rattle.sdp_formats_reader.specs.Parameters.{parameters}
 use Rattle.sdp_formats_data.specs.PrintedMedia.{params_text}
 use Rattle.sdp_formats_laws.proofs.KeyedParams.{key_is, no_level, param_back, text_is, value_is}
 use Rattle.sdp_formats_laws.specs.Printable.{IsText}
@@ -80,56 +80,26 @@ pairs_read back q qs h = first_fits _ _ _ (ap (option_map params_of) (back q qs 
 
 -- they stand as they are read
 pub spelled_same : (p : FormatParam) → IsKeyed p → spelled_as p ≡ p
-spelled_same (param.MinPTime v) h = refl
-spelled_same (param.Stereo v) h = refl
-spelled_same (param.SpropStereo v) h = refl
-spelled_same (param.UseInbandFec v) h = refl
-spelled_same (param.UseDtx v) h = refl
-spelled_same (param.LevelAsymmetryAllowed v) h = refl
-spelled_same (param.PacketizationMode v) h = refl
-spelled_same (param.ProfileLevelId v) h = refl
-spelled_same (param.ProfileId v) h = refl
-spelled_same (param.Profile v) h = refl
-spelled_same (param.LevelIdx v) h = refl
-spelled_same (param.Tier v) h = refl
-spelled_same (param.SpropMaxDonDiff v) h = refl
-spelled_same (param.OctetAlign v) h = refl
-spelled_same (param.ModeSet v) h = refl
 spelled_same (param.H265ProfileTierLevel v) h = absurd h
 spelled_same (param.H266ProfileTierLevel v) h = absurd h
 spelled_same (param.TelephoneEvents v) h = absurd h
 spelled_same (param.BareRange v) h = absurd h
 spelled_same (param.BarePtList v) h = absurd h
 spelled_same param.AmrWbUnsupported h = absurd h
-spelled_same (param.Apt v) h = refl
 spelled_same (param.Red v) h = absurd h
 spelled_same param.Unknown h = absurd h
+spelled_same _ h = refl
 
 pub not_level : (p : FormatParam) → IsKeyed p → is_level p ≡ false
-not_level (param.MinPTime v) h = refl
-not_level (param.Stereo v) h = refl
-not_level (param.SpropStereo v) h = refl
-not_level (param.UseInbandFec v) h = refl
-not_level (param.UseDtx v) h = refl
-not_level (param.LevelAsymmetryAllowed v) h = refl
-not_level (param.PacketizationMode v) h = refl
-not_level (param.ProfileLevelId v) h = refl
-not_level (param.ProfileId v) h = refl
-not_level (param.Profile v) h = refl
-not_level (param.LevelIdx v) h = refl
-not_level (param.Tier v) h = refl
-not_level (param.SpropMaxDonDiff v) h = refl
-not_level (param.OctetAlign v) h = refl
-not_level (param.ModeSet v) h = refl
 not_level (param.H265ProfileTierLevel v) h = absurd h
 not_level (param.H266ProfileTierLevel v) h = absurd h
 not_level (param.TelephoneEvents v) h = absurd h
 not_level (param.BareRange v) h = absurd h
 not_level (param.BarePtList v) h = absurd h
 not_level param.AmrWbUnsupported h = absurd h
-not_level (param.Apt v) h = refl
 not_level (param.Red v) h = absurd h
 not_level param.Unknown h = absurd h
+not_level _ h = refl
 
 pub all_spelled : (ps : List FormatParam) → AreKeyed ps → map spelled_as ps ≡ ps
 all_spelled [] h = refl

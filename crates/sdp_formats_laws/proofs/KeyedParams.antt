@@ -5,8 +5,8 @@ use Rattle.std.proofs.Common.{None, Some, refl, ◌∙◌, ap, arith, lit<, lit�
 use Rattle.std.specs.Fmt.{digits}
 use Rattle.std.proofs.lemmas.Bool.Decides.{nat_tests}
 use Rattle.sdp_formats_grammar.specs.Split.{Lacks}
-use Rattle.sdp_formats_attributes.specs.PairLemmas.{lacks-word}
-use Rattle.sdp_formats_attributes.specs.PairsSay.{IsWord}
+use Rattle.sdp_formats_reader.specs.PairLemmas.{lacks-word}
+use Rattle.sdp_formats_reader.specs.PairsSay.{IsWord}
 use Rattle.sdp_formats_values.specs.Keys.{key_named, is_name_of}
 use Rattle.sdp_formats_values.specs.Numbers.{numeral_below, or_else, profile_level, up_to}
 use Rattle.sdp_formats_values.specs.Params.{byte_param, flag, gives_level, pair_param, word_param}
@@ -20,30 +20,15 @@ use Rattle.sdp_formats_laws.specs.Keyed.{IsKeyed, pair_of}
 
 pub text_is : (p : FormatParam) → IsKeyed p → param_text p ≡ pair_text (pair_of p)
 unfolding param_text
-text_is (param.MinPTime v) h = refl
-text_is (param.Stereo v) h = refl
-text_is (param.SpropStereo v) h = refl
-text_is (param.UseInbandFec v) h = refl
-text_is (param.UseDtx v) h = refl
-text_is (param.LevelAsymmetryAllowed v) h = refl
-text_is (param.PacketizationMode v) h = refl
-text_is (param.ProfileLevelId v) h = refl
-text_is (param.ProfileId v) h = refl
-text_is (param.Profile v) h = refl
-text_is (param.LevelIdx v) h = refl
-text_is (param.Tier v) h = refl
-text_is (param.SpropMaxDonDiff v) h = refl
-text_is (param.OctetAlign v) h = refl
-text_is (param.ModeSet v) h = refl
 text_is (param.H265ProfileTierLevel v) h = absurd h
 text_is (param.H266ProfileTierLevel v) h = absurd h
 text_is (param.TelephoneEvents v) h = absurd h
 text_is (param.BareRange v) h = absurd h
 text_is (param.BarePtList v) h = absurd h
 text_is param.AmrWbUnsupported h = absurd h
-text_is (param.Apt v) h = refl
 text_is (param.Red v) h = absurd h
 text_is param.Unknown h = absurd h
+text_is _ h = refl
 
 -- a flag is 1 or 0
 pub flag_back : (b : Bool) → flag (decimal (flag_digit b)) ≡ b
@@ -81,42 +66,20 @@ param_back (param.Tier v) h = ap (byte_param key.Tier) (byte_back v h)
 param_back (param.SpropMaxDonDiff v) h = ap (word_param param.SpropMaxDonDiff) (don_back v h)
 param_back (param.OctetAlign v) h = ap param.OctetAlign (flag_back v)
 param_back (param.ModeSet v) h = ap (word_param param.ModeSet) (modes_back v h).0
-param_back (param.H265ProfileTierLevel v) h = absurd h
-param_back (param.H266ProfileTierLevel v) h = absurd h
-param_back (param.TelephoneEvents v) h = absurd h
-param_back (param.BareRange v) h = absurd h
-param_back (param.BarePtList v) h = absurd h
-param_back param.AmrWbUnsupported h = absurd h
 param_back (param.Apt v) h = ap (word_param param.Apt) (byte_back v h)
-param_back (param.Red v) h = absurd h
-param_back param.Unknown h = absurd h
+param_back _ h = absurd h
 
 pub no_level : (p : FormatParam) → IsKeyed p → gives_level (pair_of p) ≡ false
 unfolding key_named is_name_of
-no_level (param.MinPTime v) h = refl
-no_level (param.Stereo v) h = refl
-no_level (param.SpropStereo v) h = refl
-no_level (param.UseInbandFec v) h = refl
-no_level (param.UseDtx v) h = refl
-no_level (param.LevelAsymmetryAllowed v) h = refl
-no_level (param.PacketizationMode v) h = refl
-no_level (param.ProfileLevelId v) h = refl
-no_level (param.ProfileId v) h = refl
-no_level (param.Profile v) h = refl
-no_level (param.LevelIdx v) h = refl
-no_level (param.Tier v) h = refl
-no_level (param.SpropMaxDonDiff v) h = refl
-no_level (param.OctetAlign v) h = refl
-no_level (param.ModeSet v) h = refl
 no_level (param.H265ProfileTierLevel v) h = absurd h
 no_level (param.H266ProfileTierLevel v) h = absurd h
 no_level (param.TelephoneEvents v) h = absurd h
 no_level (param.BareRange v) h = absurd h
 no_level (param.BarePtList v) h = absurd h
 no_level param.AmrWbUnsupported h = absurd h
-no_level (param.Apt v) h = refl
 no_level (param.Red v) h = absurd h
 no_level param.Unknown h = absurd h
+no_level _ h = refl
 
 flag_value : (b : Bool) → IsValue (decimal (flag_digit b))
 flag_value true = decimal_value 1 (lit< tt)
@@ -138,15 +101,8 @@ value_is (param.Tier v) h = decimal_value v (omega (h, arith))
 value_is (param.SpropMaxDonDiff v) h = decimal_value v (omega (h, arith))
 value_is (param.OctetAlign v) h = flag_value v
 value_is (param.ModeSet v) h = (modes_back v h).1
-value_is (param.H265ProfileTierLevel v) h = absurd h
-value_is (param.H266ProfileTierLevel v) h = absurd h
-value_is (param.TelephoneEvents v) h = absurd h
-value_is (param.BareRange v) h = absurd h
-value_is (param.BarePtList v) h = absurd h
-value_is param.AmrWbUnsupported h = absurd h
 value_is (param.Apt v) h = decimal_value v (omega (h, arith))
-value_is (param.Red v) h = absurd h
-value_is param.Unknown h = absurd h
+value_is _ h = absurd h
 
 -- a word in letters and dashes
 abbrev pub is_plain_key : List ℕ → Bool
@@ -192,12 +148,5 @@ key_is (param.Tier v) h = key_of (codes "tier") (λ e. cc) refl
 key_is (param.SpropMaxDonDiff v) h = key_of (codes "sprop-max-don-diff") (λ e. cc) refl
 key_is (param.OctetAlign v) h = key_of (codes "octet-align") (λ e. cc) refl
 key_is (param.ModeSet v) h = key_of (codes "mode-set") (λ e. cc) refl
-key_is (param.H265ProfileTierLevel v) h = absurd h
-key_is (param.H266ProfileTierLevel v) h = absurd h
-key_is (param.TelephoneEvents v) h = absurd h
-key_is (param.BareRange v) h = absurd h
-key_is (param.BarePtList v) h = absurd h
-key_is param.AmrWbUnsupported h = absurd h
 key_is (param.Apt v) h = key_of (codes "apt") (λ e. cc) refl
-key_is (param.Red v) h = absurd h
-key_is param.Unknown h = absurd h
+key_is _ h = absurd h

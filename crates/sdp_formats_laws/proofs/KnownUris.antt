@@ -4,11 +4,14 @@ use Rattle.std.proofs.Common.{if◌then◌else◌}
 use Rattle.std.specs.Str.{bytes_eq}
 use Rattle.std.proofs.lemmas.Slice.Eq.{bytes_eq-Decides}
 use Rattle.rtp_wire.specs.Kinds.{extension_of, uri_of}
-use Rattle.rtp_wire.specs.declared.Extension.{Extension}
-use Rattle.rtp_wire.specs.declared.Extension.TheVariants.{AbsoluteSendTime, AbsoluteCaptureTime, AudioLevel}
-use Rattle.rtp_wire.specs.declared.Extension.TheVariants.{VideoOrientation, TransportSequenceNumber, PlayoutDelay}
-use Rattle.rtp_wire.specs.declared.Extension.TheVariants.{VideoContentType, RtpStreamId, RepairedRtpStreamId, RtpMid}
-use Rattle.rtp_wire.specs.declared.Extension.TheVariants.{UnknownUri}
+use Rattle.rtp_wire.specs.declared.extension.Extension.{Extension}
+use Rattle.rtp_wire.specs.declared.extension.Extension.TheVariants.{AbsoluteSendTime, AbsoluteCaptureTime}
+use Rattle.rtp_wire.specs.declared.extension.Extension.TheVariants.{AudioLevel}
+use Rattle.rtp_wire.specs.declared.extension.Extension.TheVariants.{VideoOrientation}
+use Rattle.rtp_wire.specs.declared.extension.Extension.TheVariants.{TransportSequenceNumber, PlayoutDelay}
+use Rattle.rtp_wire.specs.declared.extension.Extension.TheVariants.{VideoContentType, RtpStreamId}
+use Rattle.rtp_wire.specs.declared.extension.Extension.TheVariants.{RepairedRtpStreamId, RtpMid}
+use Rattle.rtp_wire.specs.declared.extension.Extension.TheVariants.{UnknownUri}
 use Rattle.sdp_formats_rounds.specs.Members.{IsEach}
 
 abbrev IsOwn : Extension → Type 0

@@ -4,7 +4,7 @@ use Rattle.std.proofs.Common.{refl, sym, ◌∙◌, ap, subst}
 use Rattle.std.specs.List.{cons_option, last_or}
 use Rattle.sdp_formats_grammar.specs.Split.{parts}
 use Rattle.sdp_formats_laws.proofs.Options.{none_some, some_same}
-use Rattle.sdp_formats_laws.specs.EachOnce.{IsIn}
+use Rattle.sdp_formats_rounds.specs.Members.{IsIn}
 use Rattle.sdp_formats_laws.specs.FormatParts.{GiveNone, IsLastGiven, IsLastOfLine}
 use Rattle.sdp_formats_laws.specs.Last.{IsLastIfAny, NoneGives}
 

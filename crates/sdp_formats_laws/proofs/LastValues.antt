@@ -8,7 +8,7 @@ use Rattle.sdp_formats_values.specs.Params.{last_value, or_before}
 use Rattle.sdp_formats_values.specs.declared.pairs.Pair.{Pair}
 use Rattle.sdp_formats_laws.proofs.Decided.{texts}
 use Rattle.sdp_formats_laws.proofs.EachOnce.{in_decided}
-use Rattle.sdp_formats_laws.specs.EachOnce.{IsIn}
+use Rattle.sdp_formats_rounds.specs.Members.{IsIn}
 use Rattle.sdp_formats_laws.specs.RepeatedKeys.{IsLastValue, ValuesAreLast, keys_of, lower}
 
 -- the last pair is the first one, or one of the others

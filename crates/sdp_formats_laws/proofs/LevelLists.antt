@@ -5,14 +5,14 @@ use Rattle.std.proofs.Common.{append_assoc}
 use Rattle.std.proofs.Common.{append-nil, arith}
 use Rattle.std.proofs.lemmas.List.{map-append}
 use Rattle.sdp_formats_grammar.specs.Joined.{each_behind, joined}
-use Rattle.sdp_formats_attributes.specs.PrintedPairs.{ArePairs, PairsComeBack, pairs_text}
+use Rattle.sdp_formats_reader.specs.PrintedPairs.{ArePairs, PairsComeBack, pairs_text}
 use Rattle.sdp_formats_values.specs.Params.{levels_of}
 use Rattle.sdp_formats_values.specs.Params.{params_of}
 use Rattle.sdp_formats_values.specs.PrintedParameters.{levels_text, pair_text, param_text}
 use Rattle.sdp_formats_values.specs.declared.pairs.Pair.{Pair}
 use Rattle.sdp_formats_values.specs.declared.param.FormatParam.{FormatParam}
-use Rattle.sdp_formats_attributes.specs.AsRead.{is_level, is_other, params_as_read, spelled_as}
-use Rattle.sdp_formats_attributes.specs.Parameters.{parameters}
+use Rattle.sdp_formats_reader.specs.AsRead.{is_level, is_other, params_as_read, spelled_as}
+use Rattle.sdp_formats_reader.specs.Parameters.{parameters}
 use Rattle.sdp_formats_data.specs.PrintedMedia.{params_text}
 use Rattle.sdp_formats_laws.proofs.KeyedLists.{AllLack, all_spelled, are_pairs, lack_feed, lack_return}
 use Rattle.sdp_formats_laws.proofs.KeyedLists.{levels_none, not_level, others_all, pairs_on_line}

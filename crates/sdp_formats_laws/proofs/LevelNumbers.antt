@@ -4,30 +4,30 @@ use Rattle.std.proofs.Common.{decimal, Option, Some, None, refl, ◌∙◌, ap, 
 use Rattle.std.specs.Char.{digit_value}
 use Rattle.std.specs.Str.Parse.{AllDigits, digits_value}
 use Rattle.std.proofs.lemmas.Fmt.{decimal_is_IsNumeral}
-use Rattle.h26x_payload_profiles.specs.Values.{all_digits, byte_written}
-use Rattle.h26x_payload_profiles.specs.H265ProfileTierLevel.{ComesBack as ComesBack265}
-use Rattle.h26x_payload_profiles.specs.H265ProfileTierLevel.{profile_of as profile_of_265, level_of as level_of_265}
-use Rattle.h26x_payload_profiles.specs.H266ProfileTierLevel.{ComesBack as ComesBack266, given as given_266}
-use Rattle.h26x_payload_profiles.specs.H266ProfileTierLevel.{profile_of as profile_of_266, level_of as level_of_266}
-use Rattle.h26x_payload_profiles.specs.ProfileTierLevel.{known_values, together}
-use Rattle.named_values.specs.Tables.{with_number}
-use Rattle.h26x_payload_profiles.specs.H265Level.{level_id as level_265, levels as levels_265}
-use Rattle.h26x_payload_profiles.specs.H265Profile.{profile_id as profile_265, profiles as profiles_265}
-use Rattle.h26x_payload_profiles.specs.Tier.{tier_flag, tiers}
-use Rattle.h26x_payload_profiles.specs.H266Level.{level_id as level_266}
-use Rattle.h26x_payload_profiles.specs.H266Profile.{profile_id as profile_266}
-use Rattle.h26x_payload_profiles.specs.declared.h265.H265Level as l5
-use Rattle.h26x_payload_profiles.specs.declared.h265.H265Level.TheVariants as level5
-use Rattle.h26x_payload_profiles.specs.declared.h265.H265Profile as p5
-use Rattle.h26x_payload_profiles.specs.declared.h265.H265Profile.TheVariants as profile5
-use Rattle.h26x_payload_profiles.specs.declared.tier.Tier as t
-use Rattle.h26x_payload_profiles.specs.declared.tier.Tier.TheVariants as tier
-use Rattle.h26x_payload_profiles.specs.H265ProfileTierLevel.{H265ProfileTierLevel as Level265}
-use Rattle.h26x_payload_profiles.specs.declared.h266.H266Level as l6
-use Rattle.h26x_payload_profiles.specs.declared.h266.H266Level.TheVariants as level6
-use Rattle.h26x_payload_profiles.specs.declared.h266.H266Profile as p6
-use Rattle.h26x_payload_profiles.specs.declared.h266.H266Profile.TheVariants as profile6
-use Rattle.h26x_payload_profiles.specs.H266ProfileTierLevel.{H266ProfileTierLevel as Level266}
+use Rattle.media_types.specs.Values.{all_digits, byte_written}
+use Rattle.media_types.specs.H265ProfileTierLevel.{ComesBack as ComesBack265}
+use Rattle.media_types.specs.H265ProfileTierLevel.{profile_of as profile_of_265, level_of as level_of_265}
+use Rattle.media_types.specs.H266ProfileTierLevel.{ComesBack as ComesBack266, given as given_266}
+use Rattle.media_types.specs.H266ProfileTierLevel.{profile_of as profile_of_266, level_of as level_of_266}
+use Rattle.media_types.specs.ProfileTierLevel.{known_values, together}
+use Rattle.media_types.specs.Tables.{with_number}
+use Rattle.media_types.specs.H265Level.{level_id as level_265, levels as levels_265}
+use Rattle.media_types.specs.H265Profile.{profile_id as profile_265, profiles as profiles_265}
+use Rattle.media_types.specs.Tier.{tier_flag, tiers}
+use Rattle.media_types.specs.H266Level.{level_id as level_266}
+use Rattle.media_types.specs.H266Profile.{profile_id as profile_266}
+use Rattle.media_types.specs.declared.h265.H265Level as l5
+use Rattle.media_types.specs.declared.h265.H265Level.TheVariants as level5
+use Rattle.media_types.specs.declared.h265.H265Profile as p5
+use Rattle.media_types.specs.declared.h265.H265Profile.TheVariants as profile5
+use Rattle.media_types.specs.declared.tier.Tier as t
+use Rattle.media_types.specs.declared.tier.Tier.TheVariants as tier
+use Rattle.media_types.specs.H265ProfileTierLevel.{H265ProfileTierLevel as Level265}
+use Rattle.media_types.specs.declared.h266.H266Level as l6
+use Rattle.media_types.specs.declared.h266.H266Level.TheVariants as level6
+use Rattle.media_types.specs.declared.h266.H266Profile as p6
+use Rattle.media_types.specs.declared.h266.H266Profile.TheVariants as profile6
+use Rattle.media_types.specs.H266ProfileTierLevel.{H266ProfileTierLevel as Level266}
 use Rattle.sdp_formats_values.specs.Params.{level_param}
 use Rattle.sdp_formats_values.specs.PrintedParameters.{param_text}
 use Rattle.sdp_formats_values.specs.declared.param.FormatParam.TheVariants as param
@@ -51,16 +51,7 @@ byte_back n small =
 
 profile5_small : (x : p5.H265Profile) → profile_265 x < 256
 profile5_small profile5.Main = lit< tt
-profile5_small profile5.Main10 = lit< tt
-profile5_small profile5.MainStillPicture = lit< tt
-profile5_small profile5.FormatRangeExtensions = lit< tt
-profile5_small profile5.HighThroughput = lit< tt
-profile5_small profile5.MultiviewMain = lit< tt
-profile5_small profile5.ScalableMain = lit< tt
-profile5_small profile5.ThreeDMain = lit< tt
-profile5_small profile5.ScreenContentCoding = lit< tt
-profile5_small profile5.ScreenContentCodingExtensions = lit< tt
-profile5_small profile5.HighThroughputScreenContentCoding = lit< tt
+profile5_small _ = lit< tt
 
 tier_small : (x : t.Tier) → tier_flag x < 256
 tier_small tier.Main = lit< tt
@@ -68,18 +59,7 @@ tier_small tier.High = lit< tt
 
 level5_small : (x : l5.H265Level) → level_265 x < 256
 level5_small level5.Level1 = lit< tt
-level5_small level5.Level2 = lit< tt
-level5_small level5.Level2_1 = lit< tt
-level5_small level5.Level3 = lit< tt
-level5_small level5.Level3_1 = lit< tt
-level5_small level5.Level4 = lit< tt
-level5_small level5.Level4_1 = lit< tt
-level5_small level5.Level5 = lit< tt
-level5_small level5.Level5_1 = lit< tt
-level5_small level5.Level5_2 = lit< tt
-level5_small level5.Level6 = lit< tt
-level5_small level5.Level6_1 = lit< tt
-level5_small level5.Level6_2 = lit< tt
+level5_small _ = lit< tt
 
 profile6_small : (x : p6.H266Profile) → profile_266 x < 256
 profile6_small profile6.Main10 = lit< tt
@@ -87,37 +67,11 @@ profile6_small profile6.Main10_444 = lit< tt
 
 level6_small : (x : l6.H266Level) → level_266 x < 256
 level6_small level6.Level1 = lit< tt
-level6_small level6.Level2 = lit< tt
-level6_small level6.Level2_1 = lit< tt
-level6_small level6.Level3 = lit< tt
-level6_small level6.Level3_1 = lit< tt
-level6_small level6.Level4 = lit< tt
-level6_small level6.Level4_1 = lit< tt
-level6_small level6.Level5 = lit< tt
-level6_small level6.Level5_1 = lit< tt
-level6_small level6.Level5_2 = lit< tt
-level6_small level6.Level6 = lit< tt
-level6_small level6.Level6_1 = lit< tt
-level6_small level6.Level6_2 = lit< tt
-level6_small level6.Level6_3 = lit< tt
-level6_small level6.Level15_5 = lit< tt
+level6_small _ = lit< tt
 
 no_265 : (x : l6.H266Level) → with_number level_265 levels_265 (level_266 x) ≡ None
 no_265 level6.Level1 = refl
-no_265 level6.Level2 = refl
-no_265 level6.Level2_1 = refl
-no_265 level6.Level3 = refl
-no_265 level6.Level3_1 = refl
-no_265 level6.Level4 = refl
-no_265 level6.Level4_1 = refl
-no_265 level6.Level5 = refl
-no_265 level6.Level5_1 = refl
-no_265 level6.Level5_2 = refl
-no_265 level6.Level6 = refl
-no_265 level6.Level6_1 = refl
-no_265 level6.Level6_2 = refl
-no_265 level6.Level6_3 = refl
-no_265 level6.Level15_5 = refl
+no_265 _ = refl
 
 none_together : (a : Option p5.H265Profile) (b : Option t.Tier) → together {L = l5.H265Level} a b None ≡ None
 none_together None b = refl

@@ -8,7 +8,7 @@ use Rattle.std.specs.List.{list_any}
 use Rattle.std.specs.Str.{str_eq_ignore_ascii_case}
 use Rattle.std.proofs.lemmas.List.{map-append}
 use Rattle.indexmap.specs.IndexMap.{insert_entry}
-use Rattle.sdp_formats_attributes.specs.PrintedPairs.{pairs_text}
+use Rattle.sdp_formats_reader.specs.PrintedPairs.{pairs_text}
 use Rattle.sdp_formats_values.specs.Keys.{key_named, is_name_of}
 use Rattle.sdp_formats_values.specs.Params.{Entries, gives_level, is_level_name, last_value, level_params, levels_of}
 use Rattle.sdp_formats_values.specs.Params.{or_before, others_of, pair_param, param_of, params_of}

@@ -8,11 +8,11 @@ use Rattle.sdp_formats_grammar.specs.Form.{some_text}
 use Rattle.sdp_formats_grammar.specs.Split.{Lacks, behind, halves}
 use Rattle.sdp_formats_grammar.specs.Steps.{bind_some, map_some, none_some, some_same}
 use Rattle.sdp_formats_grammar.specs.Words.{behind-append, behind-sound}
-use Rattle.sdp_formats_attributes.specs.Maps.{payload_type}
-use Rattle.sdp_formats_attributes.specs.PairLemmas.{at-cut, at-none}
-use Rattle.sdp_formats_attributes.specs.Pairs.{restrictions_of}
-use Rattle.sdp_formats_attributes.specs.Rids.{later_limits, limits_behind, limits_of, make_limits, of_type}
-use Rattle.sdp_formats_attributes.specs.Rids.{typed_limits, untyped_limits}
+use Rattle.sdp_formats_reader.specs.Maps.{payload_type}
+use Rattle.sdp_formats_reader.specs.PairLemmas.{at-cut, at-none}
+use Rattle.sdp_formats_reader.specs.Pairs.{restrictions_of}
+use Rattle.sdp_formats_reader.specs.Rids.{later_limits, limits_behind, limits_of, make_limits, of_type}
+use Rattle.sdp_formats_reader.specs.Rids.{typed_limits, untyped_limits}
 use Rattle.sdp_formats_values.specs.declared.Pair.{Pair}
 use Rattle.sdp_formats_laws.proofs.Printed.{text_some}
 use Rattle.sdp_formats_laws.proofs.RestrictionTexts.{restrictions_exact}

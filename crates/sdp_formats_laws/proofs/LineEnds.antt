@@ -5,8 +5,8 @@ use Rattle.sdp_formats_grammar.specs.Cuts.{IsCut, somewhere, nowhere, cut_of, ot
 use Rattle.sdp_formats_grammar.specs.Split.{Lacks, split_first}
 use Rattle.sdp_formats_reader.specs.Lines.{version_line, origin_line, name_line, other_line, bandwidth_line}
 use Rattle.sdp_formats_reader.specs.Lines.{times_line, repeat_line, connection_line, head_line}
-use Rattle.sdp_formats_attributes.specs.Choice.{attribute_line}
-use Rattle.sdp_formats_reader.specs.Choice.{attribute_line as session_line}
+use Rattle.sdp_formats_reader.specs.AttributesChoice.{attribute_line}
+use Rattle.sdp_formats_reader.specs.ReaderChoice.{attribute_line as session_line}
 use Rattle.sdp_formats_grammar.specs.Line.{IsLine, LineOf}
 use Rattle.sdp_formats_laws.proofs.Carried.{Carries, CarriesLines, texts}
 use Rattle.sdp_formats_laws.specs.LineEnds.{ReadsByAnyEnd, with_returns}

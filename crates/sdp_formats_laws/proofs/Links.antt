@@ -4,9 +4,9 @@ use Rattle.std.proofs.Common.{Option, Some, None, if◌then◌else◌}
 use Rattle.std.specs.Prelude.{fold}
 use Rattle.std.specs.List.{list_any}
 use Rattle.std.proofs.lemmas.List.Sums.{fold-append}
-use Rattle.payload_core_base.specs.Codecs.{is_tele_codec}
-use Rattle.payload_core_base.specs.declared.codec.Codec.{Codec}
-use Rattle.payload_core_base.specs.declared.codec.Codec.TheVariants as codec
+use Rattle.media_types.specs.Codecs.{is_tele_codec}
+use Rattle.media_types.specs.declared.codec.Codec.{Codec}
+use Rattle.media_types.specs.declared.codec.Codec.TheVariants as codec
 use Rattle.sdp_formats_values.specs.declared.param.FormatParam.{FormatParam}
 use Rattle.sdp_formats_rows.specs.Rows.{Row}
 use Rattle.sdp_formats_rows.specs.declared.spec.CodecSpec.{CodecSpec}
@@ -17,7 +17,8 @@ use Rattle.sdp_formats_section_rows.specs.Mapped.{is_mapped_to}
 use Rattle.sdp_formats_section_rows.specs.SectionRows.{linked, linked_after, names}
 use Rattle.sdp_formats_data.specs.declared.media.MediaAttribute.{MediaAttribute}
 use Rattle.sdp_formats_data.specs.declared.media.MediaAttribute.TheVariants as attribute
-use Rattle.sdp_formats_laws.specs.RowsBack.{attributes_in, names_type, types_in}
+use Rattle.sdp_formats_laws.specs.RowsBack.{attributes_in, names_type}
+use Rattle.sdp_formats_rounds.specs.TypeLaws.{types_in}
 use Rattle.sdp_formats_rounds.specs.Laws.{is_among}
 use Rattle.sdp_formats_rounds.specs.Types.{types_of}
 use Rattle.sdp_formats_rounds.proofs.Apart.{among_append}

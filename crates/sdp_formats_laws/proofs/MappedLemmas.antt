@@ -6,7 +6,7 @@ use Rattle.std.specs.Prelude.{fold}
 use Rattle.std.specs.List.{flat_map, list_any}
 use Rattle.std.proofs.lemmas.Grind.{common_steps, flat_map-append}
 use Rattle.std.proofs.lemmas.List.Folds.{list_any-append}
-use Rattle.payload_core_base.specs.declared.codec.Codec.TheVariants as codec
+use Rattle.media_types.specs.declared.codec.Codec.TheVariants as codec
 use Rattle.sdp_formats_values.specs.declared.param.FormatParam.{FormatParam}
 use Rattle.sdp_formats_rows.specs.Rows.{Row}
 use Rattle.sdp_formats_rows.specs.Codecs.{rtp_clock_rate}
@@ -22,7 +22,8 @@ use Rattle.sdp_formats_section_rows.specs.Mapped.{with_static}
 use Rattle.sdp_formats_data.specs.declared.media.MediaAttribute.{MediaAttribute}
 use Rattle.sdp_formats_data.specs.declared.media.MediaAttribute.TheVariants as attribute
 use Rattle.sdp_formats_data.specs.declared.media.RtpMap.{RtpMap}
-use Rattle.sdp_formats_laws.specs.RowsBack.{attributes_in, names_type, types_in}
+use Rattle.sdp_formats_laws.specs.RowsBack.{attributes_in, names_type}
+use Rattle.sdp_formats_rounds.specs.TypeLaws.{types_in}
 use Rattle.sdp_formats_laws.proofs.Lists.{neither, or_yes}
 use Rattle.sdp_formats_laws.proofs.Silent.{attributes_split}
 

@@ -20,7 +20,8 @@ use Rattle.sdp_formats_data.specs.declared.media.MediaAttribute.TheVariants as a
 use Rattle.sdp_formats_laws.proofs.Lists.{any_past, both, neither, none_flat, or_yes}
 use Rattle.sdp_formats_laws.proofs.MappedLemmas.{same_number}
 use Rattle.sdp_formats_laws.proofs.Silent.{attributes_split}
-use Rattle.sdp_formats_laws.specs.RowsBack.{attributes_in, names_type, types_in}
+use Rattle.sdp_formats_laws.specs.RowsBack.{attributes_in, names_type}
+use Rattle.sdp_formats_rounds.specs.TypeLaws.{types_in}
 
 -- how often a number is in a list
 times : ℕ → List ℕ → ℕ

@@ -18,7 +18,8 @@ use Rattle.sdp_formats_data.specs.declared.media.MediaAttribute.TheVariants as a
 use Rattle.sdp_formats_laws.proofs.Decided.{numbers}
 use Rattle.sdp_formats_laws.proofs.EachOnce.{Adds, each_once, in_decided, one_list}
 use Rattle.sdp_formats_laws.proofs.Filtered.{filtered, let_through}
-use Rattle.sdp_formats_laws.specs.EachOnce.{AreDistinct, IsEachOnce, IsIn}
+use Rattle.sdp_formats_laws.specs.EachOnce.{AreDistinct, IsEachOnce}
+use Rattle.sdp_formats_rounds.specs.Members.{IsIn}
 use Rattle.sdp_formats_laws.specs.Mapped.{EachTypeIsMapped, StaticTypesAreBehind, is_static_alone}
 use Rattle.sdp_formats_laws.specs.Mapped.{map_of_codec, mapped_by_line, mapped_by_lines}
 

@@ -11,7 +11,7 @@ use Rattle.std.proofs.lemmas.Nat.Bits.{same_from_bits}
 use Rattle.sdp_formats_grammar.specs.Split.{parts}
 use Rattle.sdp_formats_values.specs.Numbers.{modes_of, numeral_below, with_mode, with_modes}
 use Rattle.sdp_formats_laws.proofs.Options.{none_some, some_same}
-use Rattle.sdp_formats_laws.specs.EachOnce.{IsIn}
+use Rattle.sdp_formats_rounds.specs.Members.{IsIn}
 use Rattle.sdp_formats_laws.specs.Modes.{AreModes, IsMode, ModesAreListed, OthersAreNone}
 
 abbrev mode_in : List ℕ → Option ℕ

@@ -13,7 +13,7 @@ use Rattle.std.proofs.Math.Nat.{mod-eq_of_lt}
 use Rattle.sdp_formats_grammar.specs.Cuts.{other_byte}
 use Rattle.sdp_formats_grammar.specs.Joined.{joined, each_behind}
 use Rattle.sdp_formats_grammar.specs.Split.{Lacks, parts}
-use Rattle.sdp_formats_attributes.specs.PairLemmas.{lacks-word}
+use Rattle.sdp_formats_reader.specs.PairLemmas.{lacks-word}
 use Rattle.sdp_formats_values.specs.Numbers.{modes_of, numeral_below, with_mode, with_modes}
 use Rattle.sdp_formats_values.specs.PrintedParameters.{has_mode, modes_text}
 use Rattle.sdp_formats_laws.proofs.Numerals.{IsValue, decimal_read, lacks_digits}
@@ -36,15 +36,8 @@ list_text xs = joined (codes ",") (map decimal xs)
 trimmed : (x : ℕ) → x ≤ 8 → trim ((48 + x) ∷ []) ≡ (48 + x) ∷ []
 unfolding trim_start trim_end chars encode
 trimmed zero h = refl
-trimmed (suc zero) h = refl
-trimmed (suc (suc zero)) h = refl
-trimmed (suc (suc (suc zero))) h = refl
-trimmed (suc (suc (suc (suc zero)))) h = refl
-trimmed (suc (suc (suc (suc (suc zero))))) h = refl
-trimmed (suc (suc (suc (suc (suc (suc zero)))))) h = refl
-trimmed (suc (suc (suc (suc (suc (suc (suc zero))))))) h = refl
-trimmed (suc (suc (suc (suc (suc (suc (suc (suc zero)))))))) h = refl
 trimmed (suc (suc (suc (suc (suc (suc (suc (suc (suc x))))))))) h = absurd (omega (h, arith))
+trimmed _ h = refl
 
 digit : (x : ℕ) → x ≤ 8 → numeral_below (2 ^ 8) 10 (trim ((48 + x) ∷ [])) ≡ Some x
 digit x h =

@@ -10,7 +10,7 @@ use Rattle.sdp_formats_data.specs.declared.media.MediaAttribute.TheVariants as a
 use Rattle.sdp_formats_laws.proofs.DistinctSources.{distinct_once}
 use Rattle.sdp_formats_laws.proofs.EachOnce.{in_back, in_either, in_front}
 use Rattle.sdp_formats_laws.proofs.Options.{none_some, some_same}
-use Rattle.sdp_formats_laws.specs.EachOnce.{IsIn}
+use Rattle.sdp_formats_rounds.specs.Members.{IsIn}
 use Rattle.sdp_formats_laws.specs.RepeatedKeys.{lower}
 use Rattle.sdp_formats_laws.specs.Sources.{IsLineOf, LetsRepair, SourcesAreNamed}
 

@@ -17,7 +17,7 @@ use Rattle.sdp_formats_grammar.specs.Cuts.{Lacks-from_index}
 use Rattle.sdp_formats_grammar.specs.Form.{some_text}
 use Rattle.sdp_formats_grammar.specs.Split.{Lacks}
 use Rattle.sdp_formats_grammar.specs.Steps.{bind_some, none_some}
-use Rattle.sdp_formats_attributes.specs.Names.{has_name_chars, is_name_char, name}
+use Rattle.sdp_formats_reader.specs.Names.{has_name_chars, is_name_char, name}
 use Rattle.ucd_category.proofs.Computing.{ucd_category}
 use Rattle.sdp_formats_laws.proofs.Restrictions.{name_reads}
 use Rattle.sdp_formats_laws.proofs.ValueTexts.{some_of}

@@ -9,8 +9,8 @@ use Rattle.std.proofs.lemmas.Bool.Decides.{nat_tests}
 use Rattle.std.proofs.lemmas.Fmt.{decimal_is_IsNumeral, digits_is_IsNumeral}
 use Rattle.sdp_formats_grammar.specs.Cuts.{other_byte}
 use Rattle.sdp_formats_grammar.specs.Split.{Lacks}
-use Rattle.sdp_formats_attributes.specs.PairLemmas.{lacks-word}
-use Rattle.sdp_formats_attributes.specs.PairsSay.{IsWord}
+use Rattle.sdp_formats_reader.specs.PairLemmas.{lacks-word}
+use Rattle.sdp_formats_reader.specs.PairsSay.{IsWord}
 use Rattle.sdp_formats_values.specs.Numbers.{are_digits, numeral_below}
 use Rattle.sdp_formats_values.specs.PrintedParameters.{six_digits}
 

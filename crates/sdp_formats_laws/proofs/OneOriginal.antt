@@ -22,8 +22,9 @@ use Rattle.sdp_formats_laws.proofs.Links.{params_other}
 use Rattle.sdp_formats_laws.proofs.Lists.{all_append, all_flat, all_past, any_past, both, or_yes}
 use Rattle.sdp_formats_laws.proofs.MappedLemmas.{same_number}
 use Rattle.sdp_formats_laws.proofs.Silent.{attributes_split, others_silent, row_silent, rows_silent, tells}
-use Rattle.sdp_formats_laws.specs.PrintableTexts.{IsEach}
-use Rattle.sdp_formats_laws.specs.RowsBack.{attributes_in, names_type, types_in}
+use Rattle.sdp_formats_rounds.specs.Members.{IsEach}
+use Rattle.sdp_formats_laws.specs.RowsBack.{attributes_in, names_type}
+use Rattle.sdp_formats_rounds.specs.TypeLaws.{types_in}
 
 each_as : {A : Type 0} {P Q : A → Type 0} → ((a : A) → P a → Q a) → (xs : List A) → IsEach P xs → IsEach Q xs
 each_as f [] h = tt

@@ -1,8 +1,8 @@
 -- What begins with no letter of a line that may follow fits nowhere.
 use Rattle.std.proofs.Common.{◌≡◌, ℕ, List, [], ◌∷◌, Some, None, sym, codes}
 use Rattle.sdp_formats_grammar.specs.Split.{Lacks}
-use Rattle.sdp_formats_attributes.specs.Choice.{media_attribute}
-use Rattle.sdp_formats_reader.specs.Choice.{session_attribute}
+use Rattle.sdp_formats_reader.specs.AttributesChoice.{media_attribute}
+use Rattle.sdp_formats_reader.specs.ReaderChoice.{session_attribute}
 use Rattle.sdp_formats_reader.specs.Heads.{media_line}
 use Rattle.sdp_formats_reader.specs.Lines.{something}
 use Rattle.sdp_formats_data.specs.declared.media.MediaLine.{MediaLine}

@@ -8,8 +8,8 @@ use Rattle.sdp_formats_grammar.specs.Bind.{◌>>=◌}
 use Rattle.sdp_formats_grammar.specs.Split.{behind}
 use Rattle.sdp_formats_grammar.specs.Steps.{none_if}
 use Rattle.sdp_formats_grammar.specs.Words.{behind-sound}
-use Rattle.sdp_formats_attributes.specs.Choice.{media_attribute}
-use Rattle.sdp_formats_reader.specs.Choice.{session_attribute}
+use Rattle.sdp_formats_reader.specs.AttributesChoice.{media_attribute}
+use Rattle.sdp_formats_reader.specs.ReaderChoice.{session_attribute}
 use Rattle.sdp_formats_data.specs.declared.media.MediaAttribute.TheVariants as section
 use Rattle.sdp_formats_data.specs.declared.session.SessionAttribute.TheVariants as session
 use Rattle.sdp_formats_laws.proofs.Printed.{text_some}

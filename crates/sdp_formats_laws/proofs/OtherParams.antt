@@ -15,13 +15,13 @@ use Rattle.sdp_formats_grammar.specs.Form.{Form, IsExact, both, cut, each, eithe
 use Rattle.sdp_formats_grammar.specs.Numbers.{all_digits, number_below}
 use Rattle.sdp_formats_grammar.specs.Split.{Lacks}
 use Rattle.sdp_formats_grammar.specs.Steps.{none_if}
-use Rattle.sdp_formats_attributes.specs.PairsSay.{PairSays, PairsSay, pair_list}
+use Rattle.sdp_formats_reader.specs.PairsSay.{PairSays, PairsSay, pair_list}
 use Rattle.sdp_formats_values.specs.Params.{params_of}
 use Rattle.sdp_formats_values.specs.PrintedParameters.{param_text}
 use Rattle.sdp_formats_values.specs.declared.pairs.Pair.{Pair}
 use Rattle.sdp_formats_values.specs.declared.param.FormatParam.{FormatParam}
 use Rattle.sdp_formats_values.specs.declared.param.FormatParam.TheVariants as param
-use Rattle.sdp_formats_attributes.specs.Parameters.{anything, key_values, parameters, plain_byte, range, slash_list}
+use Rattle.sdp_formats_reader.specs.Parameters.{anything, key_values, parameters, plain_byte, range, slash_list}
 use Rattle.sdp_formats_laws.proofs.Numerals.{accepted, decimal_value, lacks_digits, no_plus}
 use Rattle.sdp_formats_laws.proofs.Numerals.{tested}
 use Rattle.sdp_formats_laws.proofs.TextBack.{text_back}

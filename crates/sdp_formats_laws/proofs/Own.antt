@@ -4,26 +4,26 @@ use Rattle.std.proofs.Common.{Option, Some, None, if◌then◌else◌, is_none, 
 use Rattle.std.specs.Prelude.{fold, unwrap_or}
 use Rattle.std.specs.List.{list_any}
 use Rattle.std.specs.Option.{option_map}
-use Rattle.payload_core_base.specs.Codecs.{is_tele_codec}
-use Rattle.payload_core_base.specs.declared.codec.Codec.{Codec}
-use Rattle.payload_core_base.specs.declared.codec.Codec.TheVariants as codec
+use Rattle.media_types.specs.Codecs.{is_tele_codec}
+use Rattle.media_types.specs.declared.codec.Codec.{Codec}
+use Rattle.media_types.specs.declared.codec.Codec.TheVariants as codec
 use Rattle.sdp_formats_values.specs.declared.param.FormatParam.{FormatParam}
 use Rattle.sdp_formats_values.specs.declared.param.FormatParam.TheVariants as param
 use Rattle.sdp_formats_rows.specs.Codecs.{is_codec}
-use Rattle.sdp_formats_params.specs.Formats.{no_format}
+use Rattle.sdp_formats_rows.specs.Formats.{no_format}
 use Rattle.sdp_formats_rows.specs.Plain.{events_alone, has_plain_events}
 use Rattle.sdp_formats_rows.specs.Rows.{Row}
-use Rattle.sdp_formats_params.specs.Same.{same, same_flag, same_format, same_h264, same_levels, same_numbers}
-use Rattle.sdp_formats_params.specs.Same.{same_opus, same_speech, same_video}
-use Rattle.sdp_formats_params.specs.Texts.{numbers_265, numbers_266}
-use Rattle.sdp_formats_params.specs.declared.format.FormatParams.{FormatParams}
+use Rattle.sdp_formats_rows.specs.Same.{same, same_flag, same_format, same_h264, same_levels, same_numbers}
+use Rattle.sdp_formats_rows.specs.Same.{same_opus, same_speech, same_video}
+use Rattle.sdp_formats_rows.specs.Texts.{numbers_265, numbers_266}
+use Rattle.sdp_formats_rows.specs.declared.format.FormatParams.{FormatParams}
 use Rattle.sdp_formats_rows.specs.declared.spec.CodecSpec.{CodecSpec}
 use Rattle.sdp_formats_section_rows.specs.Attributes.{all_feedback, feedback_line, feedback_lines}
 use Rattle.sdp_formats_section_rows.specs.Attributes.{fmtp_of, is_used, params_in, words_of}
-use Rattle.sdp_formats_params.specs.Parameters.{params_of}
+use Rattle.sdp_formats_rows.specs.Parameters.{params_of}
 use Rattle.sdp_formats_section_rows.specs.Given.{events_after, format_given, is_declined, is_unsupported}
 use Rattle.sdp_formats_section_rows.specs.Given.{most_of, with_attribute, with_events}
-use Rattle.sdp_formats_params.specs.OneParam.{with_codec_param}
+use Rattle.sdp_formats_rows.specs.OneParam.{with_codec_param}
 use Rattle.sdp_formats_data.specs.declared.media.MediaAttribute.{MediaAttribute}
 use Rattle.sdp_formats_data.specs.declared.media.MediaAttribute.TheVariants as attribute
 use Rattle.sdp_formats_laws.proofs.Lists.{any_fold, any_past, both, fold_past, none_flat, or_same}

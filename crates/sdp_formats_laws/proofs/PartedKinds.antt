@@ -3,22 +3,22 @@ use Rattle.std.proofs.Common.{◌≡◌, ◌≤◌, ◌<◌, ◌^◌, ℕ, List,
 use Rattle.std.proofs.Common.{subst, refl, sym, ◌∙◌, ap, arith, append_assoc, cond, false, lit<, lit≤}
 use Rattle.std.specs.Option.{option_map}
 use Rattle.std.proofs.lemmas.Bool.Decides.{nat_tests}
-use Rattle.payload_core_base.specs.Codecs.{codec_name}
+use Rattle.media_types.specs.Codecs.{codec_name}
 use Rattle.rtp_wire.specs.Kinds.{uri_of, extension_of}
-use Rattle.rtp_wire.specs.declared.Extension.{Extension}
+use Rattle.rtp_wire.specs.declared.extension.Extension.{Extension}
 use Rattle.std.proofs.lemmas.List.{append-nil}
 use Rattle.sdp_formats_grammar.specs.Form.{any_text, number, cut, cut_maybe, separated, told}
 use Rattle.sdp_formats_grammar.specs.Joined.{spelled, maybe_text}
 use Rattle.sdp_formats_grammar.specs.Split.{Lacks}
-use Rattle.sdp_formats_attributes.specs.Choice.{attribute_line}
-use Rattle.sdp_formats_attributes.specs.Choice.{media_attribute}
+use Rattle.sdp_formats_reader.specs.AttributesChoice.{attribute_line}
+use Rattle.sdp_formats_reader.specs.AttributesChoice.{media_attribute}
 use Rattle.sdp_formats_values.specs.declared.FormatParam.{FormatParam}
-use Rattle.sdp_formats_attributes.specs.Maps.{payload_type, clock_rate, make_map}
-use Rattle.sdp_formats_attributes.specs.AsRead.{params_as_read}
-use Rattle.sdp_formats_attributes.specs.Parameters.{parameters}
-use Rattle.sdp_formats_attributes.specs.Sources.{make_names, ssrc_number}
-use Rattle.sdp_formats_attributes.specs.Transport.{in_section}
-use Rattle.sdp_formats_attributes.specs.declared.transport.TransportAttribute.TheVariants as transport
+use Rattle.sdp_formats_reader.specs.Maps.{payload_type, clock_rate, make_map}
+use Rattle.sdp_formats_reader.specs.AsRead.{params_as_read}
+use Rattle.sdp_formats_reader.specs.Parameters.{parameters}
+use Rattle.sdp_formats_reader.specs.Sources.{make_names, ssrc_number}
+use Rattle.sdp_formats_reader.specs.Transport.{in_section}
+use Rattle.sdp_formats_reader.specs.declared.transport.TransportAttribute.TheVariants as transport
 use Rattle.sdp_formats_values.specs.PrintedValues.{is_empty, line_end}
 use Rattle.sdp_formats_data.specs.PrintedMedia.{params_text}
 use Rattle.sdp_formats_values.specs.Lists.{numbers_text, named}

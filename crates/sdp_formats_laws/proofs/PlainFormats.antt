@@ -2,10 +2,10 @@
 use Rattle.std.proofs.Common.{◌≡◌, ◌==◌, ℕ, Bool, true, false, ◌&&◌, Option, Some, None, refl, ◌∙◌, ap}
 use Rattle.std.specs.Option.{option_map}
 use Rattle.std.proofs.lemmas.Bool.Decides.{Decides-eqb}
-use Rattle.sdp_formats_params.specs.Texts.{numbers_265, numbers_266}
-use Rattle.sdp_formats_params.specs.declared.format.FormatParams.{FormatParams}
+use Rattle.sdp_formats_rows.specs.Texts.{numbers_265, numbers_266}
+use Rattle.sdp_formats_rows.specs.declared.format.FormatParams.{FormatParams}
 use Rattle.sdp_formats_rows.specs.Plain.{comes_back, has_plain_others}
-use Rattle.sdp_formats_params.specs.Same.{same, same_bool, same_flag, same_format, same_numbers}
+use Rattle.sdp_formats_rows.specs.Same.{same, same_bool, same_flag, same_format, same_numbers}
 use Rattle.sdp_formats_laws.proofs.PlainRows.{plain_format}
 use Rattle.sdp_formats_laws.specs.PrintedParameters.{FormatsComeBack, PlainFormatsAreInRange, RowsAreAsPlainAsTheirOthers}
 use Rattle.sdp_formats_rounds.specs.Ranges.{IsInRange, OneLevel}

@@ -4,10 +4,10 @@ use Rattle.std.proofs.Common.{refl, ◌∙◌, ap, arith, lit<, lit≤}
 use Rattle.std.specs.Option.{option_or, option_map}
 use Rattle.rtp_wire.specs.Name.{name_of}
 use Rattle.sdp_formats_grammar.specs.Split.{Lacks}
-use Rattle.sdp_formats_attributes.specs.Choice.{attribute_line}
-use Rattle.sdp_formats_attributes.specs.Choice.{media_attribute}
-use Rattle.sdp_formats_attributes.specs.Transport.{in_section}
-use Rattle.sdp_formats_attributes.specs.declared.transport.TransportAttribute.TheVariants as transport
+use Rattle.sdp_formats_reader.specs.AttributesChoice.{attribute_line}
+use Rattle.sdp_formats_reader.specs.AttributesChoice.{media_attribute}
+use Rattle.sdp_formats_reader.specs.Transport.{in_section}
+use Rattle.sdp_formats_reader.specs.declared.transport.TransportAttribute.TheVariants as transport
 use Rattle.sdp_formats_data.specs.PrintedMedia.{attribute_text}
 use Rattle.sdp_formats_values.specs.Lists.{named}
 use Rattle.sdp_formats_values.specs.declared.setup.Setup as setup

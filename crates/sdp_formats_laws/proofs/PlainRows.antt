@@ -4,22 +4,22 @@ use Rattle.std.proofs.Common.{Option, Some, None, sym, ◌∙◌, ◌⊎◌, ⊎
 use Rattle.std.proofs.Common.{IfSome, refl, subst, inl, inr, lit<, unwrap_or, is_none, is_some}
 use Rattle.std.specs.Option.{option_map}
 use Rattle.std.proofs.lemmas.Bool.Decides.{Decides-eqb}
-use Rattle.payload_core_base.specs.Codecs.{is_tele_codec}
+use Rattle.media_types.specs.Codecs.{is_tele_codec}
 use Rattle.sdp_formats_grammar.specs.Steps.{cons_same}
-use Rattle.sdp_formats_attributes.specs.AsRead.{is_level}
+use Rattle.sdp_formats_reader.specs.AsRead.{is_level}
 use Rattle.sdp_formats_values.specs.declared.param.FormatParam.{FormatParam}
 use Rattle.sdp_formats_values.specs.declared.param.FormatParam.TheVariants as param
-use Rattle.sdp_formats_params.specs.Formats.{format_of}
+use Rattle.sdp_formats_rows.specs.Formats.{format_of}
 use Rattle.sdp_formats_rows.specs.Plain.{comes_back, events_alone, has_plain_events, has_plain_feedback}
 use Rattle.sdp_formats_rows.specs.Plain.{has_plain_level}
 use Rattle.sdp_formats_rows.specs.Plain.{has_plain_red, has_plain_types, is_plain, is_plain_codec}
 use Rattle.sdp_formats_rows.specs.Rows.{Row}
-use Rattle.sdp_formats_params.specs.Same.{same, same_flag, same_format, same_h264, same_levels, same_numbers, same_opus}
-use Rattle.sdp_formats_params.specs.Same.{same_speech, same_video}
-use Rattle.sdp_formats_params.specs.Texts.{format_text, numbers_265, numbers_266}
-use Rattle.sdp_formats_params.specs.declared.format.FormatParams.{FormatParams}
+use Rattle.sdp_formats_rows.specs.Same.{same, same_flag, same_format, same_h264, same_levels, same_numbers, same_opus}
+use Rattle.sdp_formats_rows.specs.Same.{same_speech, same_video}
+use Rattle.sdp_formats_rows.specs.Texts.{format_text, numbers_265, numbers_266}
+use Rattle.sdp_formats_rows.specs.declared.format.FormatParams.{FormatParams}
 use Rattle.sdp_formats_section_rows.specs.Attributes.{params_in}
-use Rattle.sdp_formats_params.specs.Parameters.{params_of}
+use Rattle.sdp_formats_rows.specs.Parameters.{params_of}
 use Rattle.sdp_formats_laws.proofs.FormatRanges.{Apart, format_held}
 use Rattle.sdp_formats_laws.proofs.FormatsBack.{format_readable}
 use Rattle.sdp_formats_laws.specs.Keyed.{AreKeyed}

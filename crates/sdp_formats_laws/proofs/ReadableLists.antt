@@ -1,16 +1,16 @@
 -- Lists of parameters are read as they are printed.
 use Rattle.std.proofs.Common.{◌≡◌, true, ◌⊎◌, List, [], ◌∷◌, ◌++◌, sym, subst, ⊎_elim}
-use Rattle.h26x_payload_profiles.specs.H265ProfileTierLevel.{ComesBack as ComesBack265}
-use Rattle.h26x_payload_profiles.specs.H266ProfileTierLevel.{ComesBack as ComesBack266}
-use Rattle.h26x_payload_profiles.specs.H265Level.{level_id as level_265}
-use Rattle.h26x_payload_profiles.specs.H265Profile.{profile_id as profile_265}
-use Rattle.h26x_payload_profiles.specs.Tier.{tier_flag}
-use Rattle.h26x_payload_profiles.specs.H266Level.{level_id as level_266}
-use Rattle.h26x_payload_profiles.specs.H266Profile.{profile_id as profile_266}
+use Rattle.media_types.specs.H265ProfileTierLevel.{ComesBack as ComesBack265}
+use Rattle.media_types.specs.H266ProfileTierLevel.{ComesBack as ComesBack266}
+use Rattle.media_types.specs.H265Level.{level_id as level_265}
+use Rattle.media_types.specs.H265Profile.{profile_id as profile_265}
+use Rattle.media_types.specs.Tier.{tier_flag}
+use Rattle.media_types.specs.H266Level.{level_id as level_266}
+use Rattle.media_types.specs.H266Profile.{profile_id as profile_266}
 use Rattle.sdp_formats_grammar.specs.Form.{IsExact}
-use Rattle.sdp_formats_attributes.specs.AsRead.{is_level}
-use Rattle.sdp_formats_attributes.specs.PairsSay.{pair_list}
-use Rattle.sdp_formats_attributes.specs.PrintedPairs.{PairsComeBack}
+use Rattle.sdp_formats_reader.specs.AsRead.{is_level}
+use Rattle.sdp_formats_reader.specs.PairsSay.{pair_list}
+use Rattle.sdp_formats_reader.specs.PrintedPairs.{PairsComeBack}
 use Rattle.sdp_formats_values.specs.declared.param.FormatParam.{FormatParam}
 use Rattle.sdp_formats_values.specs.declared.param.FormatParam.TheVariants as param
 use Rattle.sdp_formats_laws.proofs.KeyedLists.{keyed_on_line, keyed_read}

@@ -10,7 +10,7 @@ use Rattle.sdp_formats_grammar.specs.Form.{Form, both, both_maybe, maybe, cut, c
 use Rattle.sdp_formats_grammar.specs.Joined.{joined}
 use Rattle.sdp_formats_grammar.specs.Numbers.{number_below}
 use Rattle.sdp_formats_grammar.specs.Split.{Lacks, halves_of, parts}
-use Rattle.sdp_formats_attributes.specs.Maps.{payload_type, clock_rate}
+use Rattle.sdp_formats_reader.specs.Maps.{payload_type, clock_rate}
 use Rattle.sdp_formats_laws.proofs.Decimals.{number_below-decimal, Lacks-decimal}
 use Rattle.sdp_formats_laws.specs.Printable.{AreBelow}
 

@@ -10,12 +10,12 @@ use Rattle.sdp_formats_grammar.specs.Form.{some_text}
 use Rattle.sdp_formats_grammar.specs.Split.{Lacks, halves, split_first}
 use Rattle.sdp_formats_grammar.specs.Step.{Begins, Stops}
 use Rattle.sdp_formats_grammar.specs.Steps.{bind_some, none_some, some_same}
-use Rattle.sdp_formats_attributes.specs.PairLemmas.{after_by, parted_halves, unblanked-word, word-complete}
-use Rattle.sdp_formats_attributes.specs.Pairs.{all_read, ends_open, is_blank, is_word_byte, make_pair, or_empty}
-use Rattle.sdp_formats_attributes.specs.Pairs.{restriction_at, restrictions_of, unblanked, word}
-use Rattle.sdp_formats_attributes.specs.PairsSay.{Blanks, IsParted, IsWord}
-use Rattle.sdp_formats_attributes.specs.Runs.{At, run, run-sound}
-use Rattle.sdp_formats_attributes.proofs.PairRounds.{restriction-shorter, restrictions-read}
+use Rattle.sdp_formats_reader.specs.PairLemmas.{after_by, parted_halves, unblanked-word, word-complete}
+use Rattle.sdp_formats_reader.specs.Pairs.{all_read, ends_open, is_blank, is_word_byte, make_pair, or_empty}
+use Rattle.sdp_formats_reader.specs.Pairs.{restriction_at, restrictions_of, unblanked, word}
+use Rattle.sdp_formats_reader.specs.PairsSay.{Blanks, IsParted, IsWord}
+use Rattle.sdp_formats_reader.specs.Runs.{At, run, run-sound}
+use Rattle.sdp_formats_reader.proofs.PairRounds.{restriction-shorter, restrictions-read}
 use Rattle.sdp_formats_values.specs.declared.Pair.{Pair}
 use Rattle.sdp_formats_laws.proofs.ValueTexts.{some_of}
 use Rattle.sdp_formats_laws.specs.RestrictionTexts.{RestrictionSays, RestrictionsAreExact, RestrictionsSay}

@@ -9,16 +9,16 @@ use Rattle.sdp_formats_grammar.specs.Cuts.{other_byte}
 use Rattle.sdp_formats_grammar.specs.Form.{cut_maybe, passed, told}
 use Rattle.sdp_formats_grammar.specs.Joined.{each_behind}
 use Rattle.sdp_formats_grammar.specs.Split.{Lacks, behind}
-use Rattle.sdp_formats_attributes.specs.Choice.{attribute_line}
-use Rattle.sdp_formats_attributes.specs.Choice.{media_attribute}
-use Rattle.sdp_formats_attributes.specs.Pairs.{restrictions_of}
-use Rattle.sdp_formats_attributes.specs.PrintedPairs.{RestrictionsComeBack, pairs_text}
+use Rattle.sdp_formats_reader.specs.AttributesChoice.{attribute_line}
+use Rattle.sdp_formats_reader.specs.AttributesChoice.{media_attribute}
+use Rattle.sdp_formats_reader.specs.Pairs.{restrictions_of}
+use Rattle.sdp_formats_reader.specs.PrintedPairs.{RestrictionsComeBack, pairs_text}
 use Rattle.sdp_formats_values.specs.PrintedParameters.{pair_text}
 use Rattle.sdp_formats_values.specs.declared.Pair.{Pair}
-use Rattle.sdp_formats_attributes.specs.Maps.{payload_type}
-use Rattle.sdp_formats_attributes.specs.Names.{has_name_chars, name}
-use Rattle.sdp_formats_attributes.specs.Rids.{limits_of, later_limits, make_id, make_limits, make_rid, maybe_limits}
-use Rattle.sdp_formats_attributes.specs.Rids.{typed_limits, limits_behind, way}
+use Rattle.sdp_formats_reader.specs.Maps.{payload_type}
+use Rattle.sdp_formats_reader.specs.Names.{has_name_chars, name}
+use Rattle.sdp_formats_reader.specs.Rids.{limits_of, later_limits, make_id, make_limits, make_rid, maybe_limits}
+use Rattle.sdp_formats_reader.specs.Rids.{typed_limits, limits_behind, way}
 use Rattle.sdp_formats_values.specs.PrintedValues.{is_empty, line_end}
 use Rattle.sdp_formats_values.specs.Lists.{rid_types_text, rid_restrictions_text}
 use Rattle.sdp_formats_values.specs.PrintedValues.{way_text}

@@ -4,18 +4,21 @@ use Rattle.std.proofs.Common.{nat_lt, List}
 use Rattle.std.proofs.Common.{[], ◌∷◌, ◌++◌, Option, Some, None, IfSome, codes, refl, sym, subst, arith, inl, inr, lit<}
 use Rattle.std.specs.List.{list_all}
 use Rattle.std.proofs.lemmas.Bool.Decides.{nat_tests}
-use Rattle.payload_core_base.specs.Codecs.{codec_name, codec_named}
-use Rattle.payload_core_base.specs.declared.codec.Codec.{Codec}
-use Rattle.payload_core_base.specs.declared.codec.Codec.TheVariants as codec
+use Rattle.media_types.specs.Codecs.{codec_name, codec_named}
+use Rattle.media_types.specs.declared.codec.Codec.{Codec}
+use Rattle.media_types.specs.declared.codec.Codec.TheVariants as codec
 use Rattle.sdp_formats_grammar.specs.Split.{Lacks}
 use Rattle.sdp_formats_laws.specs.ParameterLists.{AreReadable}
 use Rattle.sdp_formats_laws.specs.PrintedParameters.{PlainParametersAreReadable}
 use Rattle.sdp_formats_laws.specs.Printable.{AreBelow, IsPrintable, IsPrintableMap, IsText, IsWord}
-use Rattle.sdp_formats_laws.specs.PrintableTexts.{AreFormats, IsEach, IsPrintableSection}
+use Rattle.sdp_formats_laws.specs.PrintableTexts.{AreFormats, IsPrintableSection}
+use Rattle.sdp_formats_rounds.specs.Members.{IsEach}
 use Rattle.sdp_formats_values.specs.declared.FormatParam.{FormatParam}
 use Rattle.sdp_formats_rounds.specs.Types.{listed, types_of}
-use Rattle.sdp_formats_laws.specs.RowsBack.{attributes_in, types_in}
-use Rattle.sdp_formats_laws.specs.Rows.{IsMedia, IsSized, ListsRows}
+use Rattle.sdp_formats_laws.specs.RowsBack.{attributes_in}
+use Rattle.sdp_formats_rounds.specs.TypeLaws.{types_in}
+use Rattle.sdp_formats_laws.specs.Rows.{IsMedia, ListsRows}
+use Rattle.sdp_formats_rounds.specs.Ranges.{IsSized}
 use Rattle.sdp_formats_rows.specs.Codecs.{is_codec, rtp_clock_rate}
 use Rattle.sdp_formats_rows.specs.Plain.{comes_back, has_plain_events, has_plain_feedback, has_plain_level}
 use Rattle.sdp_formats_rows.specs.Plain.{has_plain_red}
@@ -27,8 +30,8 @@ use Rattle.sdp_formats_section_rows.specs.Attributes.{params_in, red_lines, rese
 use Rattle.sdp_formats_section_rows.specs.Maps.{map_of}
 use Rattle.sdp_formats_data.specs.declared.MediaAttribute.TheVariants as attribute
 use Rattle.sdp_formats_data.specs.declared.MediaLine.{MediaLine}
-use Rattle.sdp_formats_data.specs.declared.MediaType.{MediaType}
-use Rattle.sdp_formats_data.specs.declared.MediaType.TheVariants.{Audio, Video, Application, Unknown}
+use Rattle.sdp_formats_values.specs.declared.media_type.MediaType.{MediaType}
+use Rattle.sdp_formats_values.specs.declared.media_type.MediaType.TheVariants.{Audio, Video, Application, Unknown}
 
 two_true : (a b : Bool) → (a && b) ≡ true → (a ≡ true) × (b ≡ true)
 two_true true b h = (refl, h)
@@ -83,10 +86,7 @@ media_named codec.Vp8 h = named_if codec.Vp8 refl (λ e. cc) refl
 media_named codec.Vp9 h = named_if codec.Vp9 refl (λ e. cc) refl
 media_named codec.Av1 h = named_if codec.Av1 refl (λ e. cc) refl
 media_named codec.Tele h = named_if codec.Tele refl (λ e. cc) refl
-media_named codec.Rtx h = absurd (cc)
-media_named codec.Red h = absurd (cc)
-media_named codec.Null h = absurd (cc)
-media_named codec.Unknown h = absurd (cc)
+media_named _ h = absurd (cc)
 
 rtx_named : IsNamed codec.Rtx
 unfolding codec_named

@@ -1,6 +1,7 @@
 -- Whole texts of rows.
 use Rattle.std.proofs.Common.{◌≡◌, List, [], ◌∷◌, map, refl, ◌∙◌}
-use Rattle.sdp_formats_laws.specs.PrintableTexts.{IsEach, IsPrintableSection, IsPrintableText}
+use Rattle.sdp_formats_rounds.specs.Members.{IsEach}
+use Rattle.sdp_formats_laws.specs.PrintableTexts.{IsPrintableSection, IsPrintableText}
 use Rattle.sdp_formats_laws.specs.ReadTexts.{section_as_read, text_as_read}
 use Rattle.sdp_formats_reader.specs.Grammar.{SdpSays}
 use Rattle.sdp_formats_laws.specs.RowsBack.{PlainRowsComeBack, unlocked}

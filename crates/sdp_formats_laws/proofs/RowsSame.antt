@@ -3,21 +3,21 @@ use Rattle.std.proofs.Common.{◌≡◌, ◌≤◌, ◌+◌, ◌==◌, ℕ, Bool
 use Rattle.std.proofs.Common.{length, map, filter, Option, Some, None, codes, refl, sym, ◌∙◌, ap, arith, if◌then◌else◌}
 use Rattle.std.specs.List.{flat_map, fold, list_any}
 use Rattle.std.specs.Option.{option_map}
-use Rattle.payload_core_base.specs.Codecs.{is_audio_codec, is_tele_codec, is_video_codec}
-use Rattle.payload_core_base.specs.declared.codec.Codec.{Codec}
-use Rattle.payload_core_base.specs.declared.codec.Codec.TheVariants as codec
+use Rattle.media_types.specs.Codecs.{is_audio_codec, is_tele_codec, is_video_codec}
+use Rattle.media_types.specs.declared.codec.Codec.{Codec}
+use Rattle.media_types.specs.declared.codec.Codec.TheVariants as codec
 use Rattle.sdp_formats_laws.specs.AsReadLemmas.{any_as_read, any_map}
 use Rattle.sdp_formats_laws.specs.ReadTexts.{section_as_read}
 use Rattle.sdp_formats_values.specs.declared.FormatParam.{FormatParam}
 use Rattle.sdp_formats_values.specs.declared.FormatParam.TheVariants as param
-use Rattle.sdp_formats_attributes.specs.AsRead.{as_read, is_level, is_other, params_as_read, spelled_as}
+use Rattle.sdp_formats_reader.specs.AsRead.{as_read, is_level, is_other, params_as_read, spelled_as}
 use Rattle.sdp_formats_laws.specs.Rows.{section_rows}
 use Rattle.sdp_formats_rows.specs.Codecs.{is_codec}
-use Rattle.sdp_formats_params.specs.Formats.{no_format}
-use Rattle.sdp_formats_params.specs.declared.format.FormatParams.{FormatParams}
+use Rattle.sdp_formats_rows.specs.Formats.{no_format}
+use Rattle.sdp_formats_rows.specs.declared.format.FormatParams.{FormatParams}
 use Rattle.sdp_formats_section_rows.specs.Given.{events_after, events_in, format_given, is_declined, is_unsupported}
 use Rattle.sdp_formats_section_rows.specs.Given.{most_of, with_attribute, with_events, with_line}
-use Rattle.sdp_formats_params.specs.OneParam.{with_codec_param}
+use Rattle.sdp_formats_rows.specs.OneParam.{with_codec_param}
 use Rattle.sdp_formats_section_rows.specs.Maps.{spec_of_map}
 use Rattle.sdp_formats_section_rows.specs.Mapped.{is_mapped_to, mapping_in, mappings, with_static}
 use Rattle.sdp_formats_section_rows.specs.SectionRows.{has_feedback, has_row, is_feedback, linked, linked_after, listed}

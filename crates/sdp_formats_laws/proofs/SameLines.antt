@@ -7,8 +7,8 @@ use Rattle.sdp_formats_grammar.specs.Line.{IsLine, LineOf}
 use Rattle.sdp_formats_grammar.specs.Split.{Lacks}
 use Rattle.sdp_formats_reader.specs.Lines.{version_line, origin_line, name_line, other_line, bandwidth_line}
 use Rattle.sdp_formats_reader.specs.Lines.{times_line, repeat_line, connection_line, head_line}
-use Rattle.sdp_formats_attributes.specs.Choice.{attribute_line}
-use Rattle.sdp_formats_reader.specs.Choice.{attribute_line as session_line}
+use Rattle.sdp_formats_reader.specs.AttributesChoice.{attribute_line}
+use Rattle.sdp_formats_reader.specs.ReaderChoice.{attribute_line as session_line}
 use Rattle.sdp_formats_laws.proofs.Carried.{Carries, CarriesLines, session, texts}
 use Rattle.sdp_formats_laws.proofs.LineEnds.{lacking, one_cut}
 use Rattle.sdp_formats_laws.proofs.Printed.{lacks_both}

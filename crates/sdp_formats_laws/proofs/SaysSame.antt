@@ -2,9 +2,9 @@
 use Rattle.std.proofs.Common.{◌≡◌, cond, List, [], ◌∷◌, ◌++◌, map, filter, Option, refl, ap}
 use Rattle.std.specs.List.{flat_map}
 use Rattle.std.specs.Option.{option_or, unwrap_or}
-use Rattle.rtp_wire.specs.declared.Direction.TheVariants as way
+use Rattle.rtp_wire.specs.declared.direction.Direction.TheVariants as way
 use Rattle.sdp_formats_data.specs.Sections.{extmap_in}
-use Rattle.sdp_formats_attributes.specs.AsRead.{as_read}
+use Rattle.sdp_formats_reader.specs.AsRead.{as_read}
 use Rattle.sdp_formats_laws.specs.Rows.{ReadSectionsSayTheSame, is_other_line}
 use Rattle.sdp_formats_data.specs.Lookups.{direction_in, first_of, mid_in, msid_in, setup_in}
 use Rattle.sdp_formats_data.specs.declared.MediaAttribute.{MediaAttribute}

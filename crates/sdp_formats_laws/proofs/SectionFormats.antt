@@ -7,23 +7,23 @@ use Rattle.std.specs.Option.{option_map}
 use Rattle.std.proofs.lemmas.Bool.{cases_Bool, false≢true}
 use Rattle.std.proofs.lemmas.List.Folds.{list_any-append}
 use Rattle.std.proofs.lemmas.List.Sums.{fold-append}
-use Rattle.payload_core_base.specs.Codecs.{is_tele_codec}
-use Rattle.payload_core_base.specs.declared.codec.Codec.{Codec}
-use Rattle.payload_core_base.specs.declared.codec.Codec.TheVariants.{AmrWb, Tele}
-use Rattle.sdp_formats_params.specs.Formats.{no_format}
-use Rattle.sdp_formats_params.specs.declared.format.FormatParams.{FormatParams}
+use Rattle.media_types.specs.Codecs.{is_tele_codec}
+use Rattle.media_types.specs.declared.codec.Codec.{Codec}
+use Rattle.media_types.specs.declared.codec.Codec.TheVariants.{AmrWb, Tele}
+use Rattle.sdp_formats_rows.specs.Formats.{no_format}
+use Rattle.sdp_formats_rows.specs.declared.format.FormatParams.{FormatParams}
 use Rattle.sdp_formats_values.specs.declared.param.FormatParam.{FormatParam}
 use Rattle.sdp_formats_values.specs.declared.param.FormatParam.TheVariants as param
 use Rattle.sdp_formats_rows.specs.Codecs.{is_codec}
 use Rattle.sdp_formats_section_rows.specs.Given.{events_after, events_in, format_given, is_declined, is_unsupported}
 use Rattle.sdp_formats_section_rows.specs.Given.{most_of, values_for, with_attribute, with_events}
-use Rattle.sdp_formats_params.specs.OneParam.{with_codec_param}
+use Rattle.sdp_formats_rows.specs.OneParam.{with_codec_param}
 use Rattle.sdp_formats_section_rows.specs.Given.{with_line}
 use Rattle.sdp_formats_data.specs.declared.media.MediaAttribute.{MediaAttribute}
 use Rattle.sdp_formats_data.specs.declared.media.MediaAttribute.TheVariants as attribute
 use Rattle.sdp_formats_laws.proofs.AnyMember.{any_in, both, in_any}
 use Rattle.sdp_formats_laws.proofs.LastParameters.{all_last, one_format}
-use Rattle.sdp_formats_laws.specs.EachOnce.{IsIn}
+use Rattle.sdp_formats_rounds.specs.Members.{IsIn}
 use Rattle.sdp_formats_laws.specs.SectionFormats.{FormatsAreOfSections, IsGiven, IsOneRangeTo}
 use Rattle.sdp_formats_laws.specs.SectionFormats.{IsRangeTo, IsUnsupported, line_of, lines_of}
 use Rattle.sdp_formats_laws.specs.SectionFormats.{parameters_in}

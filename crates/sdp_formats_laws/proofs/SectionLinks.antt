@@ -6,8 +6,8 @@ use Rattle.std.specs.Prelude.{fold}
 use Rattle.std.specs.List.{cons_option, last_or, list_any}
 use Rattle.std.proofs.lemmas.Bool.{cases_Bool, eqb-true, false≢true}
 use Rattle.std.proofs.lemmas.Bool.Decides.{nat_tests}
-use Rattle.payload_core_base.specs.declared.codec.Codec.{Codec}
-use Rattle.payload_core_base.specs.declared.codec.Codec.TheVariants as codec
+use Rattle.media_types.specs.declared.codec.Codec.{Codec}
+use Rattle.media_types.specs.declared.codec.Codec.TheVariants as codec
 use Rattle.sdp_formats_values.specs.declared.param.FormatParam.{FormatParam}
 use Rattle.sdp_formats_values.specs.declared.param.FormatParam.TheVariants as param
 use Rattle.sdp_formats_rows.specs.Codecs.{codec_number, is_codec}
@@ -19,7 +19,7 @@ use Rattle.sdp_formats_data.specs.declared.media.RtpMap.{RtpMap}
 use Rattle.sdp_formats_laws.proofs.AnyMember.{any_in, both, in_any}
 use Rattle.sdp_formats_laws.proofs.LastGiven.{last_exact}
 use Rattle.sdp_formats_laws.proofs.Options.{none_some, some_same}
-use Rattle.sdp_formats_laws.specs.EachOnce.{IsIn}
+use Rattle.sdp_formats_rounds.specs.Members.{IsIn}
 use Rattle.sdp_formats_laws.specs.SectionLinks.{IsMappedTo, LastLinksCount, Links, Names}
 
 -- numbers that a test finds equal

@@ -12,24 +12,24 @@ use Rattle.sdp_formats_grammar.specs.Split.{Lacks}
 use Rattle.sdp_formats_reader.specs.Heads.{media_type, proto, formats, make_head}
 use Rattle.sdp_formats_reader.specs.Lines.{connection_line, bandwidth_line, head_line, passed}
 use Rattle.sdp_formats_reader.specs.declared.media.MediaHead.{MediaHead}
-use Rattle.sdp_formats_attributes.specs.Choice.{attribute_line, media_attribute}
+use Rattle.sdp_formats_reader.specs.AttributesChoice.{attribute_line, media_attribute}
 use Rattle.sdp_formats_reader.specs.Grammar.{SectionSays}
-use Rattle.sdp_formats_attributes.specs.AsRead.{as_read}
+use Rattle.sdp_formats_reader.specs.AsRead.{as_read}
 use Rattle.sdp_formats_grammar.specs.Line.{LineOf}
 use Rattle.sdp_formats_grammar.specs.Step.{Stops, Begins, Many, Perhaps}
-use Rattle.sdp_formats_data.specs.MediaTypes.{proto_text, is_channel}
+use Rattle.sdp_formats_values.specs.MediaTypes.{proto_text, is_channel}
 use Rattle.sdp_formats_values.specs.PrintedValues.{line_end, is_empty}
 use Rattle.sdp_formats_values.specs.Lists.{bandwidth_text, numbers_text, named}
 use Rattle.sdp_formats_data.specs.PrintedMedia.{section_text, attribute_text, attributes_text}
 use Rattle.sdp_formats_data.specs.PrintedMedia.{formats_text}
-use Rattle.sdp_formats_data.specs.MediaTypes.{media_type_text}
+use Rattle.sdp_formats_values.specs.MediaTypes.{media_type_text}
 use Rattle.sdp_formats_data.specs.declared.media.MediaAttribute.{MediaAttribute}
 use Rattle.sdp_formats_data.specs.declared.media.MediaLine.{MediaLine}
-use Rattle.sdp_formats_data.specs.declared.MediaType.{MediaType}
-use Rattle.sdp_formats_data.specs.declared.MediaType.TheVariants.{Audio, Video, Application, Unknown}
-use Rattle.sdp_formats_data.specs.declared.Proto.{Proto}
-use Rattle.sdp_formats_data.specs.declared.Proto.TheVariants.{Srtp, Sctp}
-use Rattle.sdp_formats_data.specs.declared.Bandwidth.{Bandwidth}
+use Rattle.sdp_formats_values.specs.declared.media_type.MediaType.{MediaType}
+use Rattle.sdp_formats_values.specs.declared.media_type.MediaType.TheVariants.{Audio, Video, Application, Unknown}
+use Rattle.sdp_formats_values.specs.declared.media_type.Proto.{Proto}
+use Rattle.sdp_formats_values.specs.declared.media_type.Proto.TheVariants.{Srtp, Sctp}
+use Rattle.sdp_formats_values.specs.declared.bandwidth.Bandwidth.{Bandwidth}
 use Rattle.sdp_formats_laws.proofs.Heads.{bandwidth, bandwidth-exact, connection, connection-exact, formats_read}
 use Rattle.sdp_formats_laws.proofs.Printed.{IsPrintedAs, named_line, named_by, printed_line, lacks}
 use Rattle.sdp_formats_laws.proofs.PlainKinds.{lacks_two}
@@ -39,7 +39,8 @@ use Rattle.sdp_formats_laws.proofs.Stopping.{first, stops, other_start, first_of
 use Rattle.sdp_formats_laws.proofs.Whole.{ListsComeBack, printed}
 use Rattle.sdp_formats_laws.specs.Printable.{IsPrintable, AreBelow}
 use Rattle.sdp_formats_laws.specs.ReadTexts.{section_as_read}
-use Rattle.sdp_formats_laws.specs.PrintableTexts.{IsEach, IsPrintableBandwidth, IsPrintableSection, AreFormats}
+use Rattle.sdp_formats_rounds.specs.Members.{IsEach}
+use Rattle.sdp_formats_laws.specs.PrintableTexts.{IsPrintableBandwidth, IsPrintableSection, AreFormats}
 use Rattle.sdp_formats_laws.specs.PrintableTexts.{LineComesBack, HasLinesThatComeBack}
 
 -- what may stand behind a section: another, or nothing

@@ -9,9 +9,9 @@ use Rattle.sdp_formats_grammar.specs.Cuts.{other_byte}
 use Rattle.sdp_formats_grammar.specs.Form.{any_text, some_text, cut_maybe, separated, told}
 use Rattle.sdp_formats_grammar.specs.Joined.{joined, spelled}
 use Rattle.sdp_formats_grammar.specs.Split.{Lacks}
-use Rattle.sdp_formats_attributes.specs.Transport.{in_session}
-use Rattle.sdp_formats_attributes.specs.declared.transport.TransportAttribute.TheVariants as transport
-use Rattle.sdp_formats_reader.specs.Choice.{attribute_line, session_attribute}
+use Rattle.sdp_formats_reader.specs.Transport.{in_session}
+use Rattle.sdp_formats_reader.specs.declared.transport.TransportAttribute.TheVariants as transport
+use Rattle.sdp_formats_reader.specs.ReaderChoice.{attribute_line, session_attribute}
 use Rattle.sdp_formats_reader.specs.Groups.{without_last, mid_word, mids_of}
 use Rattle.sdp_formats_values.specs.PrintedValues.{line_end, is_empty}
 use Rattle.sdp_formats_values.specs.Lists.{words_text, named}

@@ -12,7 +12,8 @@ use Rattle.sdp_formats_values.specs.declared.pairs.Pair.{Pair}
 use Rattle.sdp_formats_laws.proofs.Decided.{texts}
 use Rattle.sdp_formats_laws.proofs.EachOnce.{Adds, distinct_more, each_once, one_list}
 use Rattle.sdp_formats_laws.proofs.LastValues.{last_here, last_later, last_split}
-use Rattle.sdp_formats_laws.specs.EachOnce.{AreDistinct, IsIn}
+use Rattle.sdp_formats_laws.specs.EachOnce.{AreDistinct}
+use Rattle.sdp_formats_rounds.specs.Members.{IsIn}
 use Rattle.sdp_formats_laws.specs.RepeatedKeys.{AreSettled, EntriesHaveLast, IsLastValue, PairsAreSettled}
 use Rattle.sdp_formats_laws.specs.RepeatedKeys.{ValuesAreLast, keys_of, lower}
 

@@ -18,7 +18,8 @@ use Rattle.sdp_formats_section_rows.specs.Maps.{map_of}
 use Rattle.sdp_formats_data.specs.declared.media.MediaAttribute.{MediaAttribute}
 use Rattle.sdp_formats_data.specs.declared.media.MediaAttribute.TheVariants as attribute
 use Rattle.sdp_formats_data.specs.declared.media.RtpMap.{RtpMap}
-use Rattle.sdp_formats_laws.specs.RowsBack.{attributes_in, names_type, types_in}
+use Rattle.sdp_formats_laws.specs.RowsBack.{attributes_in, names_type}
+use Rattle.sdp_formats_rounds.specs.TypeLaws.{types_in}
 use Rattle.sdp_formats_laws.proofs.Lists.{any_past, fold_past, neither, none_append, none_flat}
 
 -- whether an attribute is of this type

@@ -9,12 +9,12 @@ use Rattle.sdp_formats_grammar.specs.Form.{cut_maybe, each, passed, told}
 use Rattle.sdp_formats_grammar.specs.Joined.{joined}
 use Rattle.sdp_formats_grammar.specs.Pieces.{head}
 use Rattle.sdp_formats_grammar.specs.Split.{Lacks, behind}
-use Rattle.sdp_formats_attributes.specs.Choice.{attribute_line}
-use Rattle.sdp_formats_attributes.specs.Choice.{media_attribute}
-use Rattle.sdp_formats_attributes.specs.Rids.{way}
-use Rattle.sdp_formats_attributes.specs.Simulcasts.{direction_layers, first_layer, grouped, groups, is_other, layer}
-use Rattle.sdp_formats_attributes.specs.Simulcasts.{make_id, make_layer, make_way, other_layers}
-use Rattle.sdp_formats_attributes.specs.Simulcasts.{sent, simulcast, untilded}
+use Rattle.sdp_formats_reader.specs.AttributesChoice.{attribute_line}
+use Rattle.sdp_formats_reader.specs.AttributesChoice.{media_attribute}
+use Rattle.sdp_formats_reader.specs.Rids.{way}
+use Rattle.sdp_formats_reader.specs.Simulcasts.{direction_layers, first_layer, grouped, groups, is_other, layer}
+use Rattle.sdp_formats_reader.specs.Simulcasts.{make_id, make_layer, make_way, other_layers}
+use Rattle.sdp_formats_reader.specs.Simulcasts.{sent, simulcast, untilded}
 use Rattle.sdp_formats_values.specs.PrintedValues.{is_empty, layer_text, layers_text, line_end, name_of, simulcast_text}
 use Rattle.sdp_formats_values.specs.PrintedValues.{ways_text}
 use Rattle.sdp_formats_data.specs.PrintedMedia.{attribute_text}

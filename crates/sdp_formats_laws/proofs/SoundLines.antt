@@ -1,13 +1,13 @@
 -- The lines that are read have values of their widths.
 use Rattle.std.proofs.Common.{ℕ, List, codes}
-use Rattle.sdp_formats_attributes.specs.Choice.{attribute_line, media_attribute}
-use Rattle.sdp_formats_attributes.specs.Kinds.{media_kinds}
-use Rattle.sdp_formats_attributes.specs.Transport.{in_section}
-use Rattle.sdp_formats_attributes.specs.declared.transport.TransportAttribute.{TransportAttribute}
-use Rattle.sdp_formats_attributes.specs.declared.transport.TransportAttribute.TheVariants as transport
-use Rattle.sdp_formats_attributes.specs.Maps.{payload_type}
-use Rattle.sdp_formats_attributes.specs.Sources.{extmap}
-use Rattle.sdp_formats_attributes.specs.Parameters.{fmtp, listed_fmtp, parameters, unknown_values}
+use Rattle.sdp_formats_reader.specs.AttributesChoice.{attribute_line, media_attribute}
+use Rattle.sdp_formats_reader.specs.Kinds.{media_kinds}
+use Rattle.sdp_formats_reader.specs.Transport.{in_section}
+use Rattle.sdp_formats_reader.specs.declared.transport.TransportAttribute.{TransportAttribute}
+use Rattle.sdp_formats_reader.specs.declared.transport.TransportAttribute.TheVariants as transport
+use Rattle.sdp_formats_reader.specs.Maps.{payload_type}
+use Rattle.sdp_formats_reader.specs.Sources.{extmap}
+use Rattle.sdp_formats_reader.specs.Parameters.{fmtp, listed_fmtp, parameters, unknown_values}
 use Rattle.sdp_formats_data.specs.declared.media.MediaAttribute.{MediaAttribute}
 use Rattle.sdp_formats_data.specs.declared.media.MediaAttribute.TheVariants.{Unused}
 use Rattle.sdp_formats_data.specs.declared.media.MediaLine.{MediaLine}
@@ -46,12 +46,7 @@ fmtp_sound = either_gives IsSoundLine listed_fmtp _
 -- attributes of transport
 transport_sound : (x : TransportAttribute) → IsSoundLine (in_section x)
 transport_sound (transport.IceUfrag v) = tt
-transport_sound (transport.IcePwd v) = tt
-transport_sound (transport.IceOptions v) = tt
-transport_sound (transport.Fingerprint v) = tt
-transport_sound (transport.Setup v) = tt
-transport_sound (transport.Candidate v) = tt
-transport_sound transport.EndOfCandidates = tt
+transport_sound _ = tt
 
 kinds_sound : KindsGive IsSoundLine media_kinds
 kinds_sound = (

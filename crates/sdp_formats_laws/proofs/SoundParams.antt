@@ -3,10 +3,10 @@ use Rattle.std.proofs.Common.{◌^◌, ◌||◌, ◌&&◌, ℕ, Bool, true, fals
 use Rattle.std.proofs.Common.{None, IfSome, if◌then◌else◌}
 use Rattle.std.specs.List.{list_any}
 use Rattle.std.specs.Str.{bytes_eq, str_eq_ignore_ascii_case}
-use Rattle.h26x_payload_profiles.specs.H265ProfileTierLevel.{given as given_265}
-use Rattle.h26x_payload_profiles.specs.H266ProfileTierLevel.{given as given_266}
-use Rattle.h26x_payload_profiles.specs.H265ProfileTierLevel.{H265ProfileTierLevel as Level265}
-use Rattle.h26x_payload_profiles.specs.H266ProfileTierLevel.{H266ProfileTierLevel as Level266}
+use Rattle.media_types.specs.H265ProfileTierLevel.{given as given_265}
+use Rattle.media_types.specs.H266ProfileTierLevel.{given as given_266}
+use Rattle.media_types.specs.H265ProfileTierLevel.{H265ProfileTierLevel as Level265}
+use Rattle.media_types.specs.H266ProfileTierLevel.{H266ProfileTierLevel as Level266}
 use Rattle.sdp_formats_rounds.specs.Members.{IsEach}
 use Rattle.sdp_formats_values.specs.Keys.{key_named}
 use Rattle.sdp_formats_values.specs.Numbers.{modes_of, numeral_below, profile_level, up_to}

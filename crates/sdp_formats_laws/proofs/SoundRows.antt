@@ -3,19 +3,19 @@ use Rattle.std.proofs.Common.{◌==◌, ◌&&◌, ℕ, Bool, true, false, List, 
 use Rattle.std.proofs.Common.{if◌then◌else◌}
 use Rattle.std.specs.List.{flat_map, fold, list_any}
 use Rattle.std.specs.Option.{option_map}
-use Rattle.payload_core_base.specs.Codecs.{is_tele_codec}
-use Rattle.payload_core_base.specs.declared.codec.Codec.{Codec}
-use Rattle.payload_core_base.specs.declared.codec.Codec.TheVariants.{AmrWb, G722}
+use Rattle.media_types.specs.Codecs.{is_tele_codec}
+use Rattle.media_types.specs.declared.codec.Codec.{Codec}
+use Rattle.media_types.specs.declared.codec.Codec.TheVariants.{AmrWb, G722}
 use Rattle.sdp_formats_data.specs.declared.media.MediaAttribute.{MediaAttribute}
 use Rattle.sdp_formats_data.specs.declared.media.MediaAttribute.TheVariants.{Fmtp}
 use Rattle.sdp_formats_data.specs.declared.media.RtpMap.{RtpMap}
-use Rattle.sdp_formats_params.specs.Formats.{no_format}
-use Rattle.sdp_formats_params.specs.declared.format.FormatParams.{FormatParams}
+use Rattle.sdp_formats_rows.specs.Formats.{no_format}
+use Rattle.sdp_formats_rows.specs.declared.format.FormatParams.{FormatParams}
 use Rattle.sdp_formats_rounds.specs.Members.{IsEach}
 use Rattle.sdp_formats_rounds.specs.PlainLaws.{IsSoundFormat, IsSoundRow}
 use Rattle.sdp_formats_rows.specs.Codecs.{is_codec}
 use Rattle.sdp_formats_rows.specs.declared.spec.CodecSpec.{CodecSpec}
-use Rattle.sdp_formats_params.specs.OneParam.{with_codec_param}
+use Rattle.sdp_formats_rows.specs.OneParam.{with_codec_param}
 use Rattle.sdp_formats_section_rows.specs.Given.{format_given, is_declined, values_for, with_attribute, with_events}
 use Rattle.sdp_formats_section_rows.specs.Mapped.{mappings}
 use Rattle.sdp_formats_section_rows.specs.Maps.{spec_of_map, unless_one}

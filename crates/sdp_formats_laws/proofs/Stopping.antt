@@ -5,7 +5,7 @@ use Rattle.sdp_formats_grammar.specs.Form.{Form, after}
 use Rattle.sdp_formats_grammar.specs.Joined.{joined, each_behind}
 use Rattle.sdp_formats_grammar.specs.Line.{LineOf, IsLine}
 use Rattle.sdp_formats_grammar.specs.Step.{Stops, Begins}
-use Rattle.sdp_formats_laws.specs.PrintableTexts.{IsEach}
+use Rattle.sdp_formats_rounds.specs.Members.{IsEach}
 
 -- the first byte of a text
 abbrev pub first : List ℕ → Option ℕ

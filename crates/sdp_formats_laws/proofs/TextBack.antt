@@ -1,8 +1,8 @@
 -- Parameters of some text that is read as themselves.
 use Rattle.std.proofs.Common.{◌≡◌, List, ◌∷◌, Some}
-use Rattle.sdp_formats_attributes.specs.AsRead.{params_as_read}
+use Rattle.sdp_formats_reader.specs.AsRead.{params_as_read}
 use Rattle.sdp_formats_values.specs.declared.param.FormatParam.{FormatParam}
-use Rattle.sdp_formats_attributes.specs.Parameters.{parameters}
+use Rattle.sdp_formats_reader.specs.Parameters.{parameters}
 use Rattle.sdp_formats_data.specs.PrintedMedia.{params_text}
 use Rattle.sdp_formats_laws.specs.PrintedParameters.{IsReadBack}
 use Rattle.sdp_formats_laws.specs.Printable.{IsText}

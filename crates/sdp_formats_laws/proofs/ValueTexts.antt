@@ -13,7 +13,7 @@ use Rattle.sdp_formats_grammar.specs.Joined.{octet_text}
 use Rattle.sdp_formats_grammar.specs.Numbers.{all_digits, number_below}
 use Rattle.sdp_formats_grammar.specs.Split.{Lacks, parts, split_first}
 use Rattle.sdp_formats_values.specs.FromText.{all_hex, hex_number, print_in_text}
-use Rattle.sdp_formats_attributes.specs.Digest.{fingerprint, hex_byte, hex_digit}
+use Rattle.sdp_formats_reader.specs.Digest.{fingerprint, hex_byte, hex_digit}
 use Rattle.sdp_formats_values.specs.Fingerprints.{make_fingerprint}
 use Rattle.sdp_formats_values.specs.PrintedValues.{fingerprint_text}
 use Rattle.sdp_formats_values.specs.declared.candidate.RelatedAddress.{RelatedAddress}

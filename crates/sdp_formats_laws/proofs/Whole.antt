@@ -1,11 +1,11 @@
 -- Every printable attribute is read as it is printed.
 use Rattle.std.proofs.Common.{[], ◌∷◌}
-use Rattle.sdp_formats_attributes.specs.Choice.{attribute_line}
-use Rattle.sdp_formats_attributes.specs.AsRead.{as_read}
+use Rattle.sdp_formats_reader.specs.AttributesChoice.{attribute_line}
+use Rattle.sdp_formats_reader.specs.AsRead.{as_read}
 use Rattle.sdp_formats_data.specs.PrintedMedia.{attribute_text}
 use Rattle.sdp_formats_data.specs.declared.media.MediaAttribute.{MediaAttribute}
 use Rattle.sdp_formats_data.specs.declared.media.MediaAttribute.TheVariants as a
-use Rattle.sdp_formats_attributes.specs.PrintedPairs.{RestrictionsComeBack}
+use Rattle.sdp_formats_reader.specs.PrintedPairs.{RestrictionsComeBack}
 use Rattle.sdp_formats_laws.proofs.CandidateLines.{candidate_line}
 use Rattle.sdp_formats_laws.proofs.Printed.{IsPrintedAs}
 use Rattle.sdp_formats_laws.proofs.Restrictions.{rid_line}

@@ -4,8 +4,8 @@ use Rattle.std.proofs.Common.{Option, Some, None, append_assoc, map, subst}
 use Rattle.std.specs.List.{flat_map, list_all, list_any}
 use Rattle.std.proofs.lemmas.Grind.{flat_map-append}
 use Rattle.std.proofs.lemmas.List.Folds.{list_any-append}
-use Rattle.payload_core_base.specs.declared.codec.Codec.{Codec}
-use Rattle.payload_core_base.specs.declared.codec.Codec.TheVariants as codec
+use Rattle.media_types.specs.declared.codec.Codec.{Codec}
+use Rattle.media_types.specs.declared.codec.Codec.TheVariants as codec
 use Rattle.sdp_formats_rows.specs.Codecs.{is_codec}
 use Rattle.sdp_formats_rows.specs.Plain.{is_plain}
 use Rattle.sdp_formats_rows.specs.Rows.{Row}
@@ -16,7 +16,8 @@ use Rattle.sdp_formats_data.specs.declared.media.MediaAttribute.{MediaAttribute}
 use Rattle.sdp_formats_rounds.specs.Laws.{is_among, is_distinct}
 use Rattle.sdp_formats_rounds.specs.Types.{listed, types_of}
 use Rattle.sdp_formats_rounds.proofs.Apart.{among_append}
-use Rattle.sdp_formats_laws.specs.RowsBack.{PlainRowsComeBack, attributes_in, names_type, types_in, unlocked}
+use Rattle.sdp_formats_laws.specs.RowsBack.{PlainRowsComeBack, attributes_in, names_type, unlocked}
+use Rattle.sdp_formats_rounds.specs.TypeLaws.{types_in}
 use Rattle.sdp_formats_laws.proofs.Lists.{both, neither, split_distinct}
 use Rattle.sdp_formats_laws.proofs.Links.{whole_red, whole_resend}
 use Rattle.sdp_formats_laws.proofs.MappedLemmas.{map_line, maps_in, maps_of, red_map, resend_map, same_number}

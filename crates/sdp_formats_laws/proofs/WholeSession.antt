@@ -1,6 +1,6 @@
 -- Every printable attribute of a session is read as it is printed.
 use Rattle.std.proofs.Common.{[], ◌∷◌}
-use Rattle.sdp_formats_reader.specs.Choice.{attribute_line}
+use Rattle.sdp_formats_reader.specs.ReaderChoice.{attribute_line}
 use Rattle.sdp_formats_data.specs.PrintedSession.{attribute_text}
 use Rattle.sdp_formats_data.specs.declared.session.SessionAttribute.{SessionAttribute}
 use Rattle.sdp_formats_data.specs.declared.session.SessionAttribute.TheVariants as a

@@ -11,9 +11,9 @@ use Rattle.sdp_formats_reader.specs.Lines.{version_line, origin_line, name_line,
 use Rattle.sdp_formats_reader.specs.Lines.{bandwidth_line}
 use Rattle.sdp_formats_reader.specs.Lines.{something, passed}
 use Rattle.sdp_formats_reader.specs.Heads.{media_line}
-use Rattle.sdp_formats_attributes.specs.Choice.{attribute_line as media_attribute_line}
+use Rattle.sdp_formats_reader.specs.AttributesChoice.{attribute_line as media_attribute_line}
 use Rattle.sdp_formats_reader.specs.Grammar.{OpeningSays, TimesSay, SessionSays, SectionSays, SdpSays}
-use Rattle.sdp_formats_reader.specs.Choice.{attribute_line, session_attribute}
+use Rattle.sdp_formats_reader.specs.ReaderChoice.{attribute_line, session_attribute}
 use Rattle.sdp_formats_grammar.specs.Line.{LineOf}
 use Rattle.sdp_formats_grammar.specs.Step.{Stops, Begins, Perhaps}
 use Rattle.sdp_formats_values.specs.PrintedValues.{line_end}
@@ -22,7 +22,7 @@ use Rattle.sdp_formats_values.specs.Lists.{bandwidth_text, named}
 use Rattle.sdp_formats_data.specs.PrintedSession.{attribute_text, attributes_text, session_text, sections_text}
 use Rattle.sdp_formats_data.specs.PrintedSession.{sdp_text}
 use Rattle.sdp_formats_data.specs.declared.media.MediaLine.{MediaLine}
-use Rattle.sdp_formats_data.specs.declared.Bandwidth.{Bandwidth}
+use Rattle.sdp_formats_values.specs.declared.bandwidth.Bandwidth.{Bandwidth}
 use Rattle.sdp_formats_data.specs.declared.session.Sdp.{Sdp}
 use Rattle.sdp_formats_data.specs.declared.session.Session.{Session}
 use Rattle.sdp_formats_data.specs.declared.session.SessionAttribute.{SessionAttribute}
@@ -36,7 +36,8 @@ use Rattle.sdp_formats_laws.proofs.WholeSession.{printed}
 use Rattle.sdp_formats_laws.proofs.Consistent.{all_consistent}
 use Rattle.sdp_formats_laws.specs.PrintableSession.{IsPrintable}
 use Rattle.sdp_formats_laws.specs.ReadTexts.{section_as_read, text_as_read}
-use Rattle.sdp_formats_laws.specs.PrintableTexts.{IsEach, IsPrintableSession, HasLinesThatComeBack}
+use Rattle.sdp_formats_rounds.specs.Members.{IsEach}
+use Rattle.sdp_formats_laws.specs.PrintableTexts.{IsPrintableSession, HasLinesThatComeBack}
 use Rattle.sdp_formats_laws.specs.PrintableTexts.{IsPrintableText}
 
 -- none of these letters comes first

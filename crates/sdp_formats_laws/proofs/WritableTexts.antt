@@ -9,13 +9,13 @@ use Rattle.sdp_formats_grammar.specs.Form.{IsExact}
 use Rattle.sdp_formats_grammar.specs.Joined.{each_behind, maybe_text}
 use Rattle.sdp_formats_grammar.specs.Line.{LineOf}
 use Rattle.sdp_formats_grammar.specs.Step.{Begins, Perhaps}
-use Rattle.sdp_formats_attributes.specs.Choice.{attribute_line as media_attribute_line}
+use Rattle.sdp_formats_reader.specs.AttributesChoice.{attribute_line as media_attribute_line}
 use Rattle.sdp_formats_reader.specs.Writable.{ComesBack, IsWritableAttribute, IsWritableBandwidth}
-use Rattle.sdp_formats_reader.specs.Choice.{attribute_line}
+use Rattle.sdp_formats_reader.specs.ReaderChoice.{attribute_line}
 use Rattle.sdp_formats_reader.specs.Lines.{bandwidth_line}
 use Rattle.sdp_formats_values.specs.Lists.{bandwidth_text, named, words_text}
 use Rattle.sdp_formats_data.specs.PrintedSession.{attribute_text, sections_text}
-use Rattle.sdp_formats_data.specs.declared.Bandwidth.{Bandwidth}
+use Rattle.sdp_formats_values.specs.declared.bandwidth.Bandwidth.{Bandwidth}
 use Rattle.sdp_formats_data.specs.declared.session.SessionAttribute.{SessionAttribute}
 use Rattle.sdp_formats_data.specs.declared.session.SessionAttribute.TheVariants as session
 use Rattle.sdp_formats_values.specs.PrintedValues.{line_end, fingerprint_text, is_empty}
@@ -33,7 +33,8 @@ use Rattle.sdp_formats_laws.proofs.WholeSession.{printed}
 use Rattle.sdp_formats_laws.specs.LineEnds.{is_ended}
 use Rattle.sdp_formats_laws.specs.Printable.{IsWord}
 use Rattle.sdp_formats_laws.specs.PrintableSession.{AreMids, IsPrintable}
-use Rattle.sdp_formats_laws.specs.PrintableTexts.{IsEach, IsPrintableBandwidth}
+use Rattle.sdp_formats_rounds.specs.Members.{IsEach}
+use Rattle.sdp_formats_laws.specs.PrintableTexts.{IsPrintableBandwidth}
 use Rattle.sdp_formats_laws.specs.WrittenSession.{AllReadAs, GroupedRowTextsComeBack, IsReadAs, IsWritten}
 use Rattle.sdp_formats_laws.specs.WrittenSession.{PrintableIsWritable}
 use Rattle.sdp_formats_laws.specs.WrittenSession.{grouped}

@@ -1,9 +1,9 @@
--- What an attribute is read as says the same as the attribute.
+-- An attribute as it is read says the same as the original.
 use Rattle.std.proofs.Common.{◌≡◌, ◌+◌, ℕ, Bool, true, false, not, ◌&&◌, ◌||◌, cond, List, [], ◌∷◌, ◌++◌, map, filter}
 use Rattle.std.proofs.Common.{refl, ◌∙◌, ap}
 use Rattle.std.specs.List.{count_by, fold, list_all, list_any}
 use Rattle.sdp_formats_values.specs.declared.param.FormatParam.{FormatParam}
-use Rattle.sdp_formats_attributes.specs.AsRead.{is_level, is_other, params_as_read, spelled_as}
+use Rattle.sdp_formats_reader.specs.AsRead.{is_level, is_other, params_as_read, spelled_as}
 
 pub any_map : {A B : Type 0} (f : A → B) (p : B → Bool) (q : A → Bool) → ((a : A) → p (f a) ≡ q a) → (xs : List A)
     → list_any p (map f xs) ≡ list_any q xs

@@ -1,4 +1,4 @@
--- The text of a candidate: words with a blank between each two (RFC 8839 5.1).
+-- The text of a candidate: words separated by single blanks (RFC 8839 5.1).
 use Rattle.std.specs.Prelude.{◌≡◌, ◌≢◌, ◌↔◌, ◌^◌, ℕ, List, [], ◌∷◌, ◌++◌, codes, Option, Some, None, IfSome}
 use Rattle.sdp_formats_grammar.specs.Form.{maybe}
 use Rattle.sdp_formats_grammar.specs.Joined.{joined}
@@ -8,9 +8,9 @@ use Rattle.sdp_formats_values.specs.Candidates.{candidate}
 use Rattle.sdp_formats_values.specs.CandidateWords.{kind_word, protocol_word, tcptype_word}
 use Rattle.sdp_formats_values.specs.declared.candidate.Candidate.{Candidate}
 use Rattle.sdp_formats_values.specs.declared.candidate.RelatedAddress.{RelatedAddress}
-use Rattle.sdp_formats_laws.specs.PrintableTexts.{IsEach}
+use Rattle.sdp_formats_rounds.specs.Members.{IsEach}
 
--- The words for what a candidate has as a number or a choice, and the words that are passed over.
+-- The words for a candidate's numbers and choices, and the words that are ignored.
 pub record Spelling : Type 0 where
   pub component : List ℕ
   pub protocol : List ℕ
@@ -23,7 +23,7 @@ pub record Spelling : Type 0 where
   pub network_id : Option (List ℕ)
   pub network_cost : Option (List ℕ)
 
--- They are words for what this candidate has.
+-- The words stand for this candidate's values.
 pub record Spells (c : Candidate) (s : Spelling) : Type 0 where
   pub component : number_below (2 ^ 16) s.component ≡ Some c.component_id
   pub protocol : protocol_word s.protocol ≡ Some c.proto
@@ -33,7 +33,7 @@ pub record Spells (c : Candidate) (s : Spelling) : Type 0 where
   pub related_port : IfSome c.related (λ r. number_below (2 ^ 16) s.related_port ≡ Some r.port)
   pub tcptype : maybe tcptype_word s.tcptype ≡ Some c.tcptype
 
--- A name and the word behind it, where there is one.
+-- A name and its word, if there is one.
 abbrev pub named_words : List ℕ → Option (List ℕ) → List (List ℕ)
 named_words name None = []
 named_words name (Some word) = name ∷ word ∷ []
@@ -53,7 +53,7 @@ words_of c s = c.foundation ∷ s.component ∷ s.protocol ∷ s.priority ∷ c.
 abbrev pub IsOneWord : List ℕ → Type 0
 IsOneWord word = (word ≢ []) × Lacks 32 word
 
--- A text is read as a candidate exactly where it is words for it.
+-- A text is read as a candidate if and only if it consists of words for it.
 abbrev pub CandidatesAreTheirWords : Type 0
 CandidatesAreTheirWords = (text : List ℕ) (c : Candidate) → candidate text ≡ Some c
     ↔ ((s : Spelling) × Spells c s × IsEach IsOneWord (words_of c s) × (text ≡ joined (codes " ") (words_of c s)))

@@ -1,4 +1,4 @@
--- What the parts of a format's line give (RFC 8866 6.15).
+-- What the parts of an `a=fmtp` line give (RFC 8866 6.15).
 use Rattle.std.specs.Prelude.{◌≡◌, ◌↔◌, ℕ, List, [], ◌∷◌, ◌++◌, Option, Some, None, filter_map, if◌then◌else◌}
 use Rattle.std.specs.List.{last_or}
 use Rattle.std.specs.Str.{trim}
@@ -6,11 +6,11 @@ use Rattle.sdp_formats_grammar.specs.Split.{IsJoined, Lacks, parts}
 use Rattle.sdp_formats_values.specs.Keys.{is_name_of, key_name}
 use Rattle.sdp_formats_values.specs.Numbers.{range_of}
 use Rattle.sdp_formats_values.specs.declared.key.Key.{Key}
-use Rattle.sdp_formats_laws.specs.EachOnce.{IsIn}
+use Rattle.sdp_formats_rounds.specs.Members.{IsIn}
 use Rattle.sdp_formats_laws.specs.RepeatedKeys.{lower}
 
--- What the pieces of a part between equals signs give of a key: the second one where the first is the key's name, in
--- any ASCII case, blanks round both dropped.
+-- The value that a part, split at equals signs, gives a key: the second piece, if the first is the key's name in any
+-- ASCII case; blanks around both are dropped.
 abbrev pub value_of_pieces : Key → List (List ℕ) → Option (List ℕ)
 value_of_pieces key (name ∷ text ∷ others) = if is_name_of key (trim name) then Some (trim text) else None
 value_of_pieces key _ = None
@@ -18,7 +18,7 @@ value_of_pieces key _ = None
 abbrev pub value_in : Key → List ℕ → Option (List ℕ)
 value_in key part = value_of_pieces key (parts 61 part)
 
--- The range of telephone events that a part without an equals sign is (RFC 4733 2.4.1).
+-- The range of telephone events, for a part without an equals sign (RFC 4733 2.4.1).
 abbrev pub range_of_pieces : List (List ℕ) → Option ℕ
 range_of_pieces (word ∷ []) = range_of (trim word)
 range_of_pieces _ = None
@@ -26,17 +26,17 @@ range_of_pieces _ = None
 abbrev pub range_in : List ℕ → Option ℕ
 range_in part = range_of_pieces (parts 61 part)
 
--- What the last part of a line gives, of those between semicolons that give any.
+-- The value given by the last part of a line (split at semicolons) that gives any.
 abbrev pub last_given : {A : Type 0} → (List ℕ → Option A) → List ℕ → Option A
 last_given given line = last_or None (filter_map given (parts 59 line))
 
--- The pieces of a text have such a byte between each two and in none.
+-- The pieces are separated by the byte, which occurs in none of them.
 abbrev pub PiecesAreJoined : Type 0
 PiecesAreJoined = (byte : ℕ) (text : List ℕ) (pieces : List (List ℕ))
     → (pieces ≡ parts byte text) ↔ IsJoined byte pieces text
 
--- A part gives a value of a key: up to its first equals sign it is the key's name, in any ASCII case, and from there up
--- to the next one or to its end the value, blanks round both dropped (RFC 4855 3).
+-- A part gives a key this value: what precedes its first equals sign is the key's name in any ASCII case, and what
+-- follows up to the next one, or the end, is the value; blanks around both are dropped (RFC 4855 3).
 abbrev pub IsValueOf : Key → List ℕ → List ℕ → Type 0
 IsValueOf key part value = (name : List ℕ) × (text : List ℕ) × (others : List (List ℕ))
     × IsJoined 61 (name ∷ text ∷ others) part × (lower (trim name) ≡ key_name key) × (trim text ≡ value)
@@ -52,7 +52,7 @@ RangesStandAlone = (part : List ℕ) (event : ℕ)
 abbrev pub GiveNone : {P A : Type 0} → (P → Option A) → List P → Type 0
 GiveNone {P} given ps = (part : P) → IsIn part ps → given part ≡ None
 
--- A part gives it, and none behind that part gives any.
+-- A part gives it, and no later part gives any.
 abbrev pub IsLastGiven : {P A : Type 0} → (P → Option A) → List P → A → Type 0
 IsLastGiven {P} given ps x = (front : List P) × (part : P) × (back : List P)
     × (ps ≡ front ++ part ∷ back) × (given part ≡ Some x) × GiveNone given back

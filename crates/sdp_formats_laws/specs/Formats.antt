@@ -1,11 +1,11 @@
--- What the line of a format gives (RFC 8866 6.15).
+-- What an `a=fmtp` line gives (RFC 8866 6.15).
 use Rattle.std.specs.Prelude.{◌≡◌, ◌↔◌, ℕ, ◌^◌, Bool, ◌&&◌, ◌||◌, List, Option, None, codes, if◌then◌else◌, is_none}
 use Rattle.std.specs.Prelude.{is_some, option_and_then, option_map}
 use Rattle.std.specs.Str.{bytes_eq}
-use Rattle.h26x_payload_profiles.specs.H265ProfileTierLevel.{H265ProfileTierLevel as Level265, given as given_265}
-use Rattle.h26x_payload_profiles.specs.H266ProfileTierLevel.{H266ProfileTierLevel as Level266, given as given_266}
-use Rattle.sdp_formats_params.specs.Formats.{format_of, word_value}
-use Rattle.sdp_formats_params.specs.declared.format.FormatParams.{FormatParams}
+use Rattle.media_types.specs.H265ProfileTierLevel.{H265ProfileTierLevel as Level265, given as given_265}
+use Rattle.media_types.specs.H266ProfileTierLevel.{H266ProfileTierLevel as Level266, given as given_266}
+use Rattle.sdp_formats_rows.specs.Formats.{format_of, word_value}
+use Rattle.sdp_formats_rows.specs.declared.format.FormatParams.{FormatParams}
 use Rattle.sdp_formats_values.specs.Numbers.{modes_of, numeral_below, profile_level, up_to}
 use Rattle.sdp_formats_values.specs.Params.{byte_value}
 use Rattle.sdp_formats_values.specs.declared.key.Key.{Key}
@@ -16,15 +16,15 @@ use Rattle.sdp_formats_laws.specs.FormatParts.{last_given, range_in, value_in}
 abbrev pub last_value : Key → List ℕ → Option (List ℕ)
 last_value key line = last_given (value_in key) line
 
--- A part gives the tier or the level of H.265 or H.266 (RFC 7798 7.1, RFC 9328 7.2).
+-- Some part gives the tier or the level of H.265 or H.266 (RFC 7798 7.1, RFC 9328 7.2).
 abbrev pub has_level : List ℕ → Bool
 has_level line = is_some (last_value key.TierFlag line) || is_some (last_value key.LevelId line)
 
--- A flag is on where the last value is 1.
+-- A flag is on if its last value is 1.
 abbrev pub flag_of : Key → List ℕ → Option Bool
 flag_of key line = option_map (λ value. bytes_eq value (codes "1")) (last_value key line)
 
--- A number is that of the last value that is one; but where the line has a tier or level, that of the last value alone.
+-- A number is the last value that parses; but if the line has a tier or level, the last value, if that parses.
 abbrev pub number_of : (List ℕ → Option ℕ) → Key → List ℕ → Option ℕ
 number_of read key line =
     if has_level line
@@ -35,8 +35,8 @@ number_of read key line =
 abbrev pub difference_value : List ℕ → Option ℕ
 difference_value value = up_to 32767 (numeral_below (2 ^ 16) 10 value)
 
--- The profile, tier and level that the last values of the three keys mean, where the line has a tier or level: of
--- H.265, else of H.266.
+-- If the line has a tier or level: the profile, tier and level that the last values of the three keys mean for H.265,
+-- or else for H.266.
 abbrev pub level_265 : List ℕ → Option Level265
 level_265 line =
     if has_level line
@@ -49,7 +49,7 @@ level_266 line =
     then given_266 (last_value key.ProfileId line) (last_value key.TierFlag line) (last_value key.LevelId line)
     else None
 
--- Each parameter of a format is what the line gives of it.
+-- Each parameter of the format is the one the line gives.
 pub record AreGiven (line : List ℕ) (format : FormatParams) : Type 0 where
   pub min_p_time : format.min_p_time ≡ number_of byte_value key.MinPTime line
   pub stereo : format.stereo ≡ flag_of key.Stereo line

@@ -1,4 +1,4 @@
--- Parameters of a key and a value, and their pairs.
+-- Parameters with a key and a value, as pairs.
 use Rattle.std.specs.Prelude.{◌<◌, ◌≤◌, ◌^◌, ℕ, List, [], ◌∷◌, codes}
 use Rattle.std.specs.Fmt.{decimal}
 use Rattle.sdp_formats_values.specs.PrintedParameters.{flag_digit, six_digits, modes_text}
@@ -7,7 +7,7 @@ use Rattle.sdp_formats_values.specs.declared.param.FormatParam.{FormatParam}
 use Rattle.sdp_formats_values.specs.declared.param.FormatParam.TheVariants as param
 use Rattle.sdp_formats_rounds.specs.Ranges.{IsModes}
 
--- A parameter with a value of its width.
+-- A parameter whose value fits its width.
 abbrev pub IsKeyed : FormatParam → Type 0
 IsKeyed (param.MinPTime v) = v < 2 ^ 8
 IsKeyed (param.Stereo v) = Unit {0}
@@ -53,7 +53,7 @@ pair_of (param.ModeSet v) = pair (codes "mode-set") (modes_text v)
 pair_of (param.Apt v) = pair (codes "apt") (decimal v)
 pair_of _ = pair [] []
 
--- Of another key than those of a profile, tier and level (RFC 7798 7.1).
+-- Its key isn't one of a profile, tier and level (RFC 7798 7.1).
 abbrev pub IsOrdinary : FormatParam → Type 0
 IsOrdinary (param.ProfileId v) = ⊥
 IsOrdinary (param.MinPTime v) = IsKeyed (param.MinPTime v)

@@ -9,14 +9,15 @@ use Rattle.sdp_formats_section_rows.specs.Maps.{map_of}
 use Rattle.sdp_formats_data.specs.declared.media.MediaAttribute.{MediaAttribute}
 use Rattle.sdp_formats_data.specs.declared.media.MediaAttribute.TheVariants as attribute
 use Rattle.sdp_formats_data.specs.declared.media.RtpMap.{RtpMap}
-use Rattle.sdp_formats_laws.specs.EachOnce.{IsEachOnce, IsIn}
+use Rattle.sdp_formats_laws.specs.EachOnce.{IsEachOnce}
+use Rattle.sdp_formats_rounds.specs.Members.{IsIn}
 
--- A type that has a codec of its own, and that no line maps.
+-- A static payload type that no line maps.
 abbrev pub is_static_alone : List MediaAttribute → ℕ → Bool
 is_static_alone attrs pt = not (is_mapped (mappings_in attrs) pt) && is_some (static_spec pt)
 
--- The mappings are exactly those of the lines, and behind them those of such types of the list, each once and in the
--- order in which they are first there.
+-- The mappings are exactly those of the `a=rtpmap` lines, followed by those of the listed static types that no line
+-- maps, each once, in the order of first occurrence.
 abbrev pub StaticTypesAreBehind : Type 0
 StaticTypesAreBehind = (pts : List ℕ) (attrs : List MediaAttribute) (maps : _) → (maps ≡ mappings pts attrs)
     ↔ ((alone : List ℕ) × IsEachOnce (filter (is_static_alone attrs) pts) alone
@@ -30,7 +31,7 @@ mapped_by_line pt _ = []
 abbrev pub mapped_by_lines : ℕ → List MediaAttribute → List RtpMap
 mapped_by_lines pt attrs = flat_map (mapped_by_line pt) attrs
 
--- What it is mapped to by its own codec.
+-- The mapping of a static payload type.
 abbrev pub map_of_codec : Option CodecSpec → List RtpMap
 map_of_codec None = []
 map_of_codec (Some spec) = map_of spec ∷ []
@@ -39,7 +40,8 @@ map_of_codec (Some spec) = map_of spec ∷ []
 abbrev pub mapped_by_section : ℕ → List ℕ → List MediaAttribute → List RtpMap
 mapped_by_section pt pts attrs = map (λ m. m.map) (filter (λ m. m.pt == pt) (mappings pts attrs))
 
--- That of the lines, if one maps the type; else that of its own codec, if the list has the type; else nothing.
+-- The lines' mapping, if a line maps the type; otherwise that of the static type, if the `m=` line lists it; otherwise
+-- none.
 pub record IsMapped (pt : ℕ) (pts : List ℕ) (attrs : List MediaAttribute) : Type 0 where
   pub by_lines : mapped_by_lines pt attrs ≢ [] → mapped_by_section pt pts attrs ≡ mapped_by_lines pt attrs
   pub by_itself : mapped_by_lines pt attrs ≡ [] → IsIn pt pts

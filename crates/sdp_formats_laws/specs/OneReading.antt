@@ -1,10 +1,10 @@
--- A text has one reading.
+-- A text can be read in only one way.
 use Rattle.std.specs.Prelude.{◌≡◌, ℕ, List}
 use Rattle.sdp_formats_data.specs.declared.session.Sdp.{Sdp}
 use Rattle.sdp_formats_data.specs.declared.session.Session.{Session}
 use Rattle.sdp_formats_reader.specs.Grammar.{SdpSays, SessionSays}
 
--- A text says one session with its sections at most, and leaves one rest.
+-- A text says at most one session with sections, and leaves one rest.
 abbrev pub TextsHaveOneReading : Type 0
 TextsHaveOneReading = (text : List ℕ) (a b : Sdp) (rest left : List ℕ) → SdpSays text a rest → SdpSays text b left
     → (a ≡ b) × (rest ≡ left)

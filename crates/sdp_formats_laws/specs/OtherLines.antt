@@ -1,11 +1,11 @@
--- Lines of no known kind (RFC 8866 5.13).
+-- Lines of unknown kinds (RFC 8866 5.13).
 use Rattle.std.specs.Prelude.{◌≡◌, ◌≢◌, ◌++◌, ℕ, List, [], ◌∷◌, Some, codes}
-use Rattle.sdp_formats_attributes.specs.Choice.{media_attribute}
-use Rattle.sdp_formats_reader.specs.Choice.{session_attribute}
+use Rattle.sdp_formats_reader.specs.AttributesChoice.{media_attribute}
+use Rattle.sdp_formats_reader.specs.ReaderChoice.{session_attribute}
 use Rattle.sdp_formats_data.specs.declared.media.MediaAttribute.TheVariants.{Unused as UnusedInSection}
 use Rattle.sdp_formats_data.specs.declared.session.SessionAttribute.TheVariants.{Unused as UnusedInSession}
 
--- What the known attributes of a section begin with, behind `a=`, and those that are one word.
+-- The prefixes of the known media-level attributes after `a=`, and those that are single words.
 abbrev pub section_names : List (List ℕ)
 section_names =
     codes "ice-ufrag:" ∷ codes "ice-pwd:" ∷ codes "ice-options:" ∷ codes "fingerprint:" ∷ codes "setup:"
@@ -38,7 +38,7 @@ abbrev pub IsNoneOf : List (List ℕ) → List ℕ → Type 0
 IsNoneOf [] t = Unit {0}
 IsNoneOf (word ∷ words) t = (t ≢ word) × IsNoneOf words t
 
--- A text of no known attribute of a section is read as it is.
+-- A text that is no known media-level attribute is read unchanged.
 abbrev pub OtherLinesStayInSections : Type 0
 OtherLinesStayInSections = (t : List ℕ) → t ≢ [] → BeginsWithNone section_names t → IsNoneOf section_words t
     → media_attribute.reads t ≡ Some (UnusedInSection t)

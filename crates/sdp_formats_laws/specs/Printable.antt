@@ -1,13 +1,13 @@
--- Attributes of a section that are read as they are printed.
+-- Media-level attributes that are read back as they were printed.
 use Rattle.std.specs.Prelude.{◌≡◌, ◌≢◌, ◌<◌, ◌≤◌, ◌^◌, ℕ, true, false, List, [], ◌∷◌, Some, None, IfSome}
-use Rattle.payload_core_base.specs.Codecs.{codec_name, codec_named}
+use Rattle.media_types.specs.Codecs.{codec_name, codec_named}
 use Rattle.rtp_wire.specs.Kinds.{uri_of, extension_of}
 use Rattle.rtp_wire.specs.Name.{name_of}
 use Rattle.sdp_formats_grammar.specs.Split.{Lacks}
-use Rattle.sdp_formats_attributes.specs.Choice.{media_attribute}
-use Rattle.sdp_formats_attributes.specs.PrintedPairs.{ArePairs}
+use Rattle.sdp_formats_reader.specs.AttributesChoice.{media_attribute}
+use Rattle.sdp_formats_reader.specs.PrintedPairs.{ArePairs}
 use Rattle.sdp_formats_values.specs.declared.Pair.{Pair}
-use Rattle.sdp_formats_attributes.specs.Names.{has_name_chars}
+use Rattle.sdp_formats_reader.specs.Names.{has_name_chars}
 use Rattle.sdp_formats_laws.specs.ParameterLists.{AreReadable}
 use Rattle.sdp_formats_values.specs.declared.candidate.Candidate as candidate
 use Rattle.sdp_formats_values.specs.declared.candidate.RelatedAddress.{RelatedAddress}
@@ -23,11 +23,11 @@ use Rattle.sdp_formats_data.specs.declared.media.MediaAttribute.TheVariants.{Can
 use Rattle.sdp_formats_data.specs.declared.media.MediaAttribute.TheVariants.{RtcpFb, Fmtp, Rid, Simulcast, SsrcGroup}
 use Rattle.sdp_formats_data.specs.declared.media.MediaAttribute.TheVariants.{Fingerprint, Ssrc, Unused}
 
--- Bytes, or none, without the end of a line.
+-- Bytes (maybe none) without a line end.
 abbrev pub LacksLineEnds : List ℕ → Type 0
 LacksLineEnds t = Lacks 10 t × Lacks 13 t
 
--- A text of a line: some bytes, and no end of a line among them.
+-- A text for a line: nonempty, without a line end.
 abbrev pub IsText : List ℕ → Type 0
 IsText t = (t ≢ []) × Lacks 10 t × Lacks 13 t
 
@@ -35,7 +35,7 @@ IsText t = (t ≢ []) × Lacks 10 t × Lacks 13 t
 abbrev pub IsWord : List ℕ → Type 0
 IsWord t = IsText t × Lacks 32 t
 
--- A codec that its name stands for, with rates and channels that can be written.
+-- A codec that its name stands for, with a clock rate and channels that can be written.
 abbrev pub IsPrintableMap : map_of.RtpMap → Type 0
 IsPrintableMap m = (codec_named (codec_name m.codec) ≡ m.codec) × IsWord (codec_name m.codec)
     × Lacks 47 (codec_name m.codec) × (0 < m.clock_rate) × (m.clock_rate < 2 ^ 32) × IfSome m.channels (λ n. n < 2 ^ 8)
@@ -44,7 +44,7 @@ abbrev pub AreBelow : ℕ → List ℕ → Type 0
 AreBelow limit [] = Unit {0}
 AreBelow limit (n ∷ ns) = (n < limit) × AreBelow limit ns
 
--- A fingerprint of a named hash function, with a byte at least.
+-- A fingerprint with a named hash function and at least one byte.
 abbrev pub IsPrintableDigest : List ℕ → List ℕ → Type 0
 IsPrintableDigest name [] = ⊥
 IsPrintableDigest name (b ∷ bs) = IsWord name × AreBelow 256 (b ∷ bs)
@@ -57,7 +57,7 @@ abbrev pub IsPrintableCandidate : candidate.Candidate → Type 0
 IsPrintableCandidate c = IsWord c.foundation × (c.component_id < 2 ^ 16) × (c.prio < 2 ^ 32) × IsWord c.addr
     × (c.port < 2 ^ 16) × IfSome c.related IsPrintableRelated × IfSome c.ufrag IsWord
 
--- A name of letters and numbers (RFC 8851 4), and none of the signs that part names.
+-- A name of letters and numbers (RFC 8851 4), without the characters that separate names.
 pub record IsName (t : List ℕ) : Type 0 where
   pub word : IsWord t
   pub name : has_name_chars t ≡ true
@@ -74,7 +74,8 @@ abbrev pub HasOtherKey : List ℕ → Type 0
 HasOtherKey [] = ⊥
 HasOtherKey (b ∷ bs) = b ≢ 112
 
--- A payload type, or restrictions, or nothing: a type with restrictions is printed `pt=99;max-br=1`, which is no type.
+-- A payload type, or restrictions, or nothing: a type with restrictions would be printed as `pt=99;max-br=1`, which
+-- isn't read as a type.
 abbrev pub AreLimits : List ℕ → List Pair → Type 0
 AreLimits [] [] = Unit {0}
 AreLimits [] (p ∷ ps) = ArePairs (p ∷ ps) × AreOnLine (p ∷ ps) × HasOtherKey p.key
@@ -87,14 +88,14 @@ abbrev pub AreLayers : List SimulcastLayer → Type 0
 AreLayers [] = Unit {0}
 AreLayers (l ∷ ls) = (IsName l.restriction_id.0 × (l.attributes ≡ None)) × AreLayers ls
 
--- A layer at least, one way or the other.
+-- At least one layer, in either direction.
 abbrev pub AreWays : List SimulcastLayer → List SimulcastLayer → Type 0
 AreWays [] [] = ⊥
 AreWays [] (r ∷ rs) = AreLayers (r ∷ rs)
 AreWays (s ∷ ss) rs = AreLayers (s ∷ ss) × AreLayers rs
 
--- An attribute whose texts can stand where they are printed. The parameters of `a=fmtp` are a readable list, and the
--- text of a line of another kind is of no known kind. A simulcast is one that is printed.
+-- An attribute that reads back from its line: its texts are allowed in their places, the parameters of `a=fmtp` are
+-- readable, a line of an unknown kind doesn't look like a known one, and a simulcast has at least one layer.
 abbrev pub IsPrintable : MediaAttribute → Type 0
 IsPrintable (Rtcp v) = IsText v
 IsPrintable (IceUfrag v) = IsText v

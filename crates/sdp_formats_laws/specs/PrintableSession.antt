@@ -1,7 +1,7 @@
 -- Attributes of a session that are read as they are printed.
 use Rattle.std.specs.Prelude.{◌≡◌, ℕ, List, [], ◌∷◌, Some}
 use Rattle.rtp_wire.specs.Name.{name_of}
-use Rattle.sdp_formats_reader.specs.Choice.{session_attribute}
+use Rattle.sdp_formats_reader.specs.ReaderChoice.{session_attribute}
 use Rattle.sdp_formats_data.specs.declared.session.SessionAttribute.{SessionAttribute}
 use Rattle.sdp_formats_data.specs.declared.session.SessionAttribute.TheVariants.{Group, MsidSemantic, IceLite}
 use Rattle.sdp_formats_data.specs.declared.session.SessionAttribute.TheVariants.{IceUfrag}
@@ -19,8 +19,8 @@ abbrev pub AreMids : List (List ℕ) → Type 0
 AreMids [] = Unit {0}
 AreMids (m ∷ ms) = IsWord m × (name_of 16 m ≡ m) × AreMids ms
 
--- An attribute whose texts can stand where they are printed; the text of another kind of line is of no known kind.
--- `a=extmap-allow-mixed` isn't among them: it is read as a line of no known kind.
+-- An attribute that reads back from its line: its texts are allowed in their places, and a line of an unknown kind
+-- doesn't look like a known one. `a=extmap-allow-mixed` is excluded: it is read as a line of an unknown kind.
 abbrev pub IsPrintable : SessionAttribute → Type 0
 IsPrintable (Group typ mids) = IsWord typ × AreMids mids
 IsPrintable (MsidSemantic semantic (s ∷ ss)) = IsWord semantic × AreWords (s ∷ ss)

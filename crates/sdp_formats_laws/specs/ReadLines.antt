@@ -13,14 +13,14 @@ use Rattle.sdp_formats_section_rows.specs.SectionRows.{rows_of}
 use Rattle.sdp_formats_values.specs.declared.param.FormatParam.{FormatParam}
 use Rattle.sdp_formats_values.specs.declared.param.FormatParam.TheVariants.{ModeSet, ProfileId, SpropMaxDonDiff}
 
--- Modes of AMR-WB, numbers of decoding order and `profile-id` of their widths (RFC 4867 8.2, RFC 7798 7.1).
+-- AMR-WB modes, `sprop-max-don-diff` and `profile-id` within their ranges (RFC 4867 8.2, RFC 7798 7.1).
 abbrev pub IsSoundParam : FormatParam → Type 0
 IsSoundParam (ModeSet modes) = IsModes modes
 IsSoundParam (SpropMaxDonDiff n) = n ≤ 32767
 IsSoundParam (ProfileId n) = n < 2 ^ 32
 IsSoundParam _ = Unit {0}
 
--- Parameters of their widths, and a header extension that is the one of its own URI (RFC 8285 5).
+-- Parameters within their ranges, and a header extension that is the one its URI names (RFC 8285 5).
 abbrev pub IsSoundLine : MediaAttribute → Type 0
 IsSoundLine (Fmtp pt ps) = IsEach IsSoundParam ps
 IsSoundLine (ExtMap id ext) = extension_of (uri_of ext) ≡ ext
@@ -29,12 +29,12 @@ IsSoundLine _ = Unit {0}
 abbrev pub HasSoundLines : MediaLine → Type 0
 HasSoundLines m = IsEach IsSoundLine m.attrs
 
--- So is each line of a section that is read of a text.
+-- Every line of a section that was read satisfies this.
 abbrev pub ReadLinesAreSound : Type 0
 ReadLinesAreSound = (text : List ℕ) (sdp : Sdp) (rest : List ℕ) → SdpSays text sdp rest
     → IsEach HasSoundLines sdp.media_lines
 
--- The rows of such lines pass on nothing but values of their widths.
+-- The rows of such lines contain only values within their ranges.
 abbrev pub SoundLinesGiveSoundRows : Type 0
 SoundLinesGiveSoundRows = (pts : List ℕ) (attrs : List MediaAttribute) → IsEach IsSoundLine attrs
     → IsEach IsSoundRow (rows_of pts attrs)

@@ -1,12 +1,12 @@
--- What a printed text is read as.
+-- How printed SDP is read back.
 use Rattle.std.specs.Prelude.{List, map}
-use Rattle.sdp_formats_attributes.specs.AsRead.{as_read}
+use Rattle.sdp_formats_reader.specs.AsRead.{as_read}
 use Rattle.sdp_formats_data.specs.declared.media.MediaLine.{MediaLine}
 use Rattle.sdp_formats_data.specs.declared.session.Sdp.{Sdp}
 use Rattle.sdp_formats_data.specs.declared.session.SessionAttribute.{SessionAttribute}
 
--- The section itself, but for parameters of `a=fmtp`: a profile, tier and level comes in front of the others, a range
--- of telephone events is a range and a type of redundant audio a list of types.
+-- The section itself, except for the parameters of `a=fmtp`: a profile, tier and level comes first, a range of
+-- telephone events is a bare range, and a RED type is a bare list of types.
 abbrev pub section_as_read : MediaLine → MediaLine
 section_as_read m = record m { attrs = map as_read m.attrs }
 

@@ -1,14 +1,16 @@
--- What holds of whole texts whose sections list plain rows.
+-- What holds of SDP whose sections list plain rows.
 use Rattle.std.specs.Prelude.{◌≡◌, ◌≢◌, ◌<◌, ◌≤◌, ◌^◌, Bool, true, false, IsTrue, List, [], ◌∷◌, ◌++◌, map, filter}
 use Rattle.std.specs.List.{count_by, flat_map, list_all, list_any}
 use Rattle.sdp_formats_laws.specs.Printable.{IsPrintable}
-use Rattle.sdp_formats_laws.specs.PrintableTexts.{IsEach, IsPrintableBandwidth, IsPrintableSection, IsPrintableSession}
+use Rattle.sdp_formats_rounds.specs.Members.{IsEach}
+use Rattle.sdp_formats_laws.specs.PrintableTexts.{IsPrintableBandwidth, IsPrintableSection, IsPrintableSession}
 use Rattle.sdp_formats_laws.specs.ReadTexts.{section_as_read, text_as_read, text_read}
 use Rattle.sdp_formats_data.specs.Sections.{extmap_in}
 use Rattle.sdp_formats_reader.specs.Grammar.{SdpSays}
 use Rattle.sdp_formats_rounds.specs.Laws.{is_distinct}
-pub use Rattle.sdp_formats_rounds.specs.Ranges.{IsSized}
-use Rattle.sdp_formats_laws.specs.RowsBack.{attributes_in, names_type, types_in, unlocked}
+use Rattle.sdp_formats_rounds.specs.Ranges.{IsSized}
+use Rattle.sdp_formats_laws.specs.RowsBack.{attributes_in, names_type, unlocked}
+use Rattle.sdp_formats_rounds.specs.TypeLaws.{types_in}
 use Rattle.sdp_formats_rows.specs.Plain.{is_plain}
 use Rattle.sdp_formats_rows.specs.Rows.{Row}
 use Rattle.sdp_formats_section_rows.specs.SectionRows.{rows_of}
@@ -16,13 +18,13 @@ use Rattle.sdp_formats_data.specs.Consistency.{is_consistent, is_direction_of, i
 use Rattle.sdp_formats_reader.specs.Writable.{ComesBack, IsWritableSession}
 use Rattle.sdp_formats_data.specs.Lookups.{direction_of, first_of, mid_in, msid_in, setup_in}
 use Rattle.sdp_formats_data.specs.Media.{is_mid}
-use Rattle.sdp_formats_data.specs.MediaTypes.{is_rtp}
+use Rattle.sdp_formats_values.specs.MediaTypes.{is_rtp}
 use Rattle.sdp_formats_data.specs.PrintedSession.{sdp_text}
 use Rattle.sdp_formats_data.specs.declared.media.MediaAttribute.{MediaAttribute}
 use Rattle.sdp_formats_data.specs.declared.media.MediaAttribute.TheVariants.{Fmtp}
 use Rattle.sdp_formats_data.specs.declared.media.MediaLine.{MediaLine}
-use Rattle.sdp_formats_data.specs.declared.MediaType.{MediaType}
-use Rattle.sdp_formats_data.specs.declared.MediaType.TheVariants.{Audio, Video}
+use Rattle.sdp_formats_values.specs.declared.media_type.MediaType.{MediaType}
+use Rattle.sdp_formats_values.specs.declared.media_type.MediaType.TheVariants.{Audio, Video}
 use Rattle.sdp_formats_data.specs.declared.session.Sdp.{Sdp}
 use Rattle.sdp_formats_data.specs.declared.session.SessionAttribute.{SessionAttribute}
 
@@ -31,8 +33,8 @@ IsMedia Audio = Unit {0}
 IsMedia Video = Unit {0}
 IsMedia _ = ⊥
 
--- A section of audio or video that lists rows: plain ones of distinct types, their types in the line `m=`, their
--- attributes among others that name no type and can stand on their lines.
+-- A section of audio or video that lists rows: they are plain with distinct payload types; the `m=` line lists these
+-- types; and its attributes are those of the rows, among others that name no payload type and are printable.
 pub record ListsRows (m : MediaLine) (rows : List Row) : Type 0 where
   pub media : IsMedia m.typ
   pub bandwidth : IsPrintableBandwidth m.bw
@@ -49,18 +51,18 @@ pub record ListsRows (m : MediaLine) (rows : List Row) : Type 0 where
   pub others_silent : list_any names_type others ≡ false
   pub behind_silent : list_any names_type behind ≡ false
 
--- A section with one name, at most one setup and, of RTP, one direction (RFC 8829 5.2.1).
+-- A section with exactly one mid, at most one setup and, if it is RTP, one direction (RFC 8829 5.2.1).
 pub record HasOneOfEach (m : MediaLine) : Type 0 where
   pub name : count_by is_mid m.attrs ≡ 1
   pub setup : count_by is_setup m.attrs ≤ 1
   pub direction : is_rtp m.proto ≡ true → count_by is_direction_of m.attrs ≡ 1
 
--- Such a section that lists rows has no fault.
+-- Such a section that lists rows is consistent.
 abbrev pub ListedRowsHaveNoFault : Type 0
 ListedRowsHaveNoFault = (m : MediaLine) (rows : List Row) → ListsRows m rows → HasOneOfEach m
     → IsTrue (is_consistent m)
 
--- A section that lists rows can be printed: each attribute that lists a plain row is a printable one.
+-- A section that lists rows is printable: so is every attribute that lists a plain row.
 abbrev pub RowsArePrintable : Type 0
 RowsArePrintable = (m : MediaLine) (rows : List Row) → ListsRows m rows → IsPrintableSection m
 
@@ -68,7 +70,7 @@ RowsArePrintable = (m : MediaLine) (rows : List Row) → ListsRows m rows → Is
 abbrev pub section_rows : MediaLine → List Row
 section_rows m = rows_of m.pts m.attrs
 
--- What a printed section is read as names the rows that the section names.
+-- Reading a printed section gives the same rows.
 abbrev pub ReadRowsAreRows : Type 0
 ReadRowsAreRows = (m : MediaLine) → section_rows (section_as_read m) ≡ section_rows m
 
@@ -78,22 +80,22 @@ EachListsRows (m ∷ ms) (rows ∷ more) = ListsRows m rows × EachListsRows ms 
 EachListsRows [] (rows ∷ more) = ⊥
 EachListsRows (m ∷ ms) [] = ⊥
 
--- A text whose sections list plain rows, in a printable session, is read whole; and the rows that are read of it are
--- those rows, section by section and in their order, not locked.
+-- SDP whose sections list plain rows, in a printable session, is read completely, and its rows are read back section by
+-- section, in order and unlocked.
 abbrev pub RowTextsComeBack : Type 0
 RowTextsComeBack = (sdp : Sdp) (rows : List (List Row)) → IsPrintableSession sdp.session
     → EachListsRows sdp.media_lines rows → IsEach HasOneOfEach sdp.media_lines
     → SdpSays (sdp_text sdp) (text_as_read sdp) []
     × (map section_rows (text_as_read sdp).media_lines ≡ map (map unlocked) rows)
 
--- What is read of attributes of a session, one by one: the attribute, or one of no known kind.
+-- How session attributes are read back, one by one: as themselves, or as lines of an unknown kind.
 abbrev pub AllComeBack : List SessionAttribute → List SessionAttribute → Type 0
 AllComeBack [] [] = Unit {0}
 AllComeBack (a ∷ as') (b ∷ bs) = ComesBack a b × AllComeBack as' bs
 AllComeBack [] (b ∷ bs) = ⊥
 AllComeBack (a ∷ as') [] = ⊥
 
--- The same of a session that can be written, of whose attributes some may be read as ones of no known kind.
+-- The same for a writable session, some of whose attributes may be read as lines of an unknown kind.
 abbrev pub WritableRowTextsComeBack : Type 0
 WritableRowTextsComeBack = (sdp : Sdp) (rows : List (List Row)) → (sdp.session.id < 2 ^ 64)
     → IsWritableSession sdp.session → EachListsRows sdp.media_lines rows
@@ -107,8 +109,8 @@ abbrev pub is_other_line : MediaAttribute → Bool
 is_other_line (Fmtp pt values) = false
 is_other_line _ = true
 
--- What a printed section is read as says the same by each of its other lines, in their order: the name, the direction,
--- the names of streams, the setup and the header extensions among them.
+-- In a printed section that is read back, every line other than `a=fmtp` says the same, in the same order, including
+-- mid, direction, stream names, setup and header extensions.
 abbrev pub ReadSectionsSayTheSame : Type 0
 ReadSectionsSayTheSame = (m : MediaLine)
     → (filter is_other_line (section_as_read m).attrs ≡ filter is_other_line m.attrs)

@@ -2,7 +2,7 @@
 use Rattle.std.specs.Prelude.{◌≡◌, Bool, true, false, List, ◌++◌, map}
 use Rattle.std.specs.List.{flat_map, list_all, list_any}
 use Rattle.sdp_formats_rounds.specs.Laws.{is_distinct}
-pub use Rattle.sdp_formats_rounds.specs.TypeLaws.{types_in}
+use Rattle.sdp_formats_rounds.specs.TypeLaws.{types_in}
 use Rattle.sdp_formats_rows.specs.Plain.{is_plain}
 use Rattle.sdp_formats_rows.specs.Rows.{Row}
 use Rattle.sdp_formats_section_rows.specs.Attributes.{attributes_of}
@@ -25,8 +25,8 @@ names_type _ = false
 abbrev pub unlocked : Row → Row
 unlocked row = record row { locked = false }
 
--- Plain rows of distinct types come back from a section that lists them: its list has their types, and its attributes
--- are those of the rows, others that name no type before and behind them.
+-- Plain rows with distinct payload types are read back from a section that lists them: its list has their types, and
+-- its attributes are those of the rows, surrounded by others that name no type.
 abbrev pub PlainRowsComeBack : Type 0
 PlainRowsComeBack = (rows : List Row) (others behind : List MediaAttribute) → list_all is_plain rows ≡ true
     → is_distinct (types_in rows) ≡ true → list_any names_type others ≡ false → list_any names_type behind ≡ false

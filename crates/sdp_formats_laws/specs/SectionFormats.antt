@@ -1,17 +1,17 @@
--- The format that a section's lines give a payload type (RFC 8866 6.15).
+-- The format that a section gives a payload type (RFC 8866 6.15).
 use Rattle.std.specs.Prelude.{◌≡◌, ◌≢◌, ◌↔◌, ◌⊎◌, ℕ, ◌==◌, List, [], ◌∷◌, Option, Some, None, filter_map}
 use Rattle.std.specs.Prelude.{if◌then◌else◌}
 use Rattle.std.specs.List.{flat_map}
-use Rattle.payload_core_base.specs.declared.codec.Codec.{Codec}
-use Rattle.payload_core_base.specs.declared.codec.Codec.TheVariants.{AmrWb, Tele}
-use Rattle.sdp_formats_params.specs.Formats.{no_format}
-use Rattle.sdp_formats_params.specs.declared.format.FormatParams.{FormatParams}
+use Rattle.media_types.specs.declared.codec.Codec.{Codec}
+use Rattle.media_types.specs.declared.codec.Codec.TheVariants.{AmrWb, Tele}
+use Rattle.sdp_formats_rows.specs.Formats.{no_format}
+use Rattle.sdp_formats_rows.specs.declared.format.FormatParams.{FormatParams}
 use Rattle.sdp_formats_values.specs.declared.param.FormatParam.{FormatParam}
 use Rattle.sdp_formats_values.specs.declared.param.FormatParam.TheVariants as param
 use Rattle.sdp_formats_section_rows.specs.Given.{format_given}
 use Rattle.sdp_formats_data.specs.declared.media.MediaAttribute.{MediaAttribute}
 use Rattle.sdp_formats_data.specs.declared.media.MediaAttribute.TheVariants as attribute
-use Rattle.sdp_formats_laws.specs.EachOnce.{IsIn}
+use Rattle.sdp_formats_rounds.specs.Members.{IsIn}
 use Rattle.sdp_formats_laws.specs.Last.{IsLastIfAny}
 
 -- What each line `a=fmtp` of a type holds, in order.
@@ -26,7 +26,7 @@ lines_of pt attrs = filter_map (line_of pt) attrs
 abbrev pub parameters_in : List (List FormatParam) → List FormatParam
 parameters_in lines = flat_map (λ line. line) lines
 
--- One line, and all that it holds is a range of events `0-X` (RFC 4733 2.4.1).
+-- There is one line, and it holds only a range of events `0-X` (RFC 4733 2.4.1).
 abbrev pub IsRangeTo : ℕ → FormatParam → Type 0
 IsRangeTo most range = (range ≡ param.BareRange most) ⊎ (range ≡ param.TelephoneEvents most)
 
@@ -36,7 +36,7 @@ IsOneRangeTo most lines = (range : FormatParam) × (lines ≡ (range ∷ []) ∷
 abbrev pub events_up_to : ℕ → FormatParams
 events_up_to most = record no_format { telephone_event_max = Some most }
 
--- AMR-WB with a parameter that needs what isn't supported (RFC 4867 8.2).
+-- AMR-WB with a parameter for a feature that isn't supported (RFC 4867 8.2).
 abbrev pub IsUnsupported : Codec → List FormatParam → Type 0
 IsUnsupported codec params = (codec ≡ AmrWb) × IsIn param.AmrWbUnsupported params
 
@@ -65,8 +65,8 @@ pub record AreLast (params : List FormatParam) (format : FormatParams) : Type 0 
   pub octet_align : IsLastOfKind param.OctetAlign params format.octet_align
   pub mode_set : IsLastOfKind param.ModeSet params format.mode_set
 
--- What the lines of a type give a codec. Telephone events are up to 16 where there is no line, and else those of one
--- range alone (RFC 4733 2.4.1); another codec has the last parameter of each kind.
+-- The format that a type's lines give a codec. Telephone events: 0 to 16 without a line; otherwise the range, if it is
+-- alone (RFC 4733 2.4.1). Other codecs: the last parameter of each kind.
 pub record IsGiven (codec : Codec) (lines : List (List FormatParam)) (given : Option FormatParams) : Type 0 where
   pub no_line : codec ≡ Tele → lines ≡ [] → given ≡ Some (events_up_to 16)
   pub one_range : codec ≡ Tele → (most : ℕ) → IsOneRangeTo most lines → given ≡ Some (events_up_to most)

@@ -3,7 +3,7 @@ use Rattle.std.specs.Prelude.{◌≡◌, ◌<◌, ◌↔◌, ◌^◌, ℕ, List,
 use Rattle.sdp_formats_grammar.specs.Split.{Lacks}
 use Rattle.sdp_formats_values.specs.FromText.{print_in_text}
 use Rattle.sdp_formats_values.specs.Candidates.{candidate}
-use Rattle.sdp_formats_attributes.specs.Digest.{fingerprint}
+use Rattle.sdp_formats_reader.specs.Digest.{fingerprint}
 use Rattle.sdp_formats_values.specs.PrintedValues.{fingerprint_text}
 use Rattle.sdp_formats_values.specs.PrintedCandidates.{candidate_text}
 use Rattle.sdp_formats_values.specs.declared.candidate.Candidate.{Candidate}
@@ -20,12 +20,12 @@ abbrev pub IsOfWords : Candidate → Type 0
 IsOfWords c = IsOneWord c.foundation × (c.component_id < 2 ^ 16) × (c.prio < 2 ^ 32) × IsOneWord c.addr
     × (c.port < 2 ^ 16) × IfSome c.related IsRelatedOfWords × IfSome c.ufrag IsOneWord
 
--- Just such a candidate is printed as `candidate:` and a text that is read as the candidate.
+-- Exactly such candidates print as `candidate:` and a text that is read back as the candidate.
 abbrev pub PrintedCandidatesComeBack : Type 0
 PrintedCandidatesComeBack = (c : Candidate) → IsOfWords c
     ↔ ((text : List ℕ) × (candidate_text c ≡ codes "candidate:" ++ text) × (candidate text ≡ Some c))
 
--- Each candidate that is read of a text is such a one.
+-- Every candidate that was read is such a one.
 abbrev pub ReadCandidatesAreOfWords : Type 0
 ReadCandidatesAreOfWords = (text : List ℕ) (c : Candidate) → candidate text ≡ Some c → IsOfWords c
 
@@ -34,7 +34,7 @@ abbrev pub IsDigest : List ℕ → Type 0
 IsDigest [] = ⊥
 IsDigest (b ∷ bs) = AreBelow (2 ^ 8) (b ∷ bs)
 
--- Just a fingerprint with a digest and a word for its hash function is read of its printed text as itself.
+-- A fingerprint reads back from its printed text if and only if it has a digest and its hash function's name is a word.
 abbrev pub IsNamedDigest : Fingerprint → Type 0
 IsNamedDigest f = IsOneWord f.hash_func × IsDigest f.bytes
 
@@ -45,7 +45,7 @@ PrintedFingerprintsComeBack = (f : Fingerprint) → IsNamedDigest f ↔ (fingerp
 abbrev pub ReadFingerprintsAreNamed : Type 0
 ReadFingerprintsAreNamed = (text : List ℕ) (f : Fingerprint) → fingerprint.reads text ≡ Some f → IsNamedDigest f
 
--- Where bytes are read as Rust reads numbers, the name may be empty too.
+-- If bytes are read as Rust reads hexadecimal numbers, the name may also be empty.
 abbrev pub FingerprintsComeBackFromText : Type 0
 FingerprintsComeBackFromText = (f : Fingerprint) → Lacks 32 f.hash_func → IsDigest f.bytes
     → print_in_text.reads (fingerprint_text f) ≡ Some f

@@ -1,4 +1,4 @@
--- Sessions whose attributes can be written or printed, groups among them.
+-- Sessions whose attributes can be written or are printable, groups included.
 use Rattle.std.specs.Prelude.{◌≡◌, ◌<◌, ◌^◌, ◌⊎◌, ℕ, false, List, [], ◌∷◌, map, codes, IfSome}
 use Rattle.sdp_formats_reader.specs.OneMoreAttribute.{with_first}
 use Rattle.sdp_formats_reader.specs.Writable.{ComesBack, IsWritableAttribute, IsWritableBandwidth}
@@ -13,7 +13,8 @@ use Rattle.sdp_formats_data.specs.declared.session.SessionAttribute.TheVariants.
 use Rattle.sdp_formats_rows.specs.Rows.{Row}
 use Rattle.sdp_formats_laws.specs.Printable.{IsWord}
 use Rattle.sdp_formats_laws.specs.PrintableSession.{AreMids, IsPrintable}
-use Rattle.sdp_formats_laws.specs.PrintableTexts.{IsEach, IsPrintableBandwidth}
+use Rattle.sdp_formats_rounds.specs.Members.{IsEach}
+use Rattle.sdp_formats_laws.specs.PrintableTexts.{IsPrintableBandwidth}
 use Rattle.sdp_formats_laws.specs.ReadTexts.{section_as_read, text_read}
 use Rattle.sdp_formats_laws.specs.Rows.{AllComeBack, EachListsRows, HasOneOfEach, section_rows}
 use Rattle.sdp_formats_laws.specs.RowsBack.{unlocked}
@@ -38,8 +39,8 @@ AllReadAs (a ∷ as') (b ∷ bs) = IsReadAs a b × AllReadAs as' bs
 AllReadAs [] (b ∷ bs) = ⊥
 AllReadAs (a ∷ as') [] = ⊥
 
--- A text whose sections list plain rows, in such a session, is read whole: the session with its attributes so read, and
--- section by section those rows, in their order and not locked.
+-- SDP whose sections list plain rows, in such a session, is read completely: the session's attributes as stated, and
+-- the rows section by section, in order and unlocked.
 abbrev pub WrittenRowTextsComeBack : Type 0
 WrittenRowTextsComeBack = (sdp : Sdp) (rows : List (List Row)) → IsWrittenSession sdp.session
     → EachListsRows sdp.media_lines rows → IsEach HasOneOfEach sdp.media_lines
@@ -47,12 +48,12 @@ WrittenRowTextsComeBack = (sdp : Sdp) (rows : List (List Row)) → IsWrittenSess
     × AllReadAs sdp.session.attrs attrs
     × (map section_rows (text_read sdp attrs).media_lines ≡ map (map unlocked) rows)
 
--- A session and sections, with a group of sections before the session's own attributes, as ends print it.
+-- The same SDP with a group in front of the session's attributes, as ends print it.
 abbrev pub grouped : List ℕ → List (List ℕ) → Sdp → Sdp
 grouped typ mids sdp =
     record { session = with_first (Group typ mids) sdp.session; media_lines = sdp.media_lines }
 
--- So such a text of a session that can be written is read whole: the group as itself, and the rest as without it.
+-- Such SDP with a writable session is read completely: the group as itself, the rest as without the group.
 abbrev pub GroupedRowTextsComeBack : Type 0
 GroupedRowTextsComeBack = (sdp : Sdp) (rows : List (List Row)) (typ : List ℕ) (mids : List (List ℕ))
     → (sdp.session.id < 2 ^ 64) → IsWritableSession sdp.session → IsWord typ → AreMids mids
@@ -66,8 +67,7 @@ GroupedRowTextsComeBack = (sdp : Sdp) (rows : List (List Row)) (typ : List ℕ) 
 abbrev pub PrintableIsWritable : Type 0
 PrintableIsWritable = (a : SessionAttribute) → IsPrintable a → is_group a ≡ false → IsWritableAttribute a
 
--- What a session of WebRTC begins with (RFC 8829 5.2.1): one group of its sections, and the two forms of header
--- extensions together (RFC 8285 6).
+-- The usual session attributes of WebRTC (RFC 8829 5.2.1): a BUNDLE group, and `a=extmap-allow-mixed` (RFC 8285 6).
 abbrev pub UsualAttributesAreWritten : Type 0
 UsualAttributesAreWritten = (mids : List (List ℕ)) → AreMids mids
     → IsEach IsWritten (Group (codes "BUNDLE") mids ∷ AllowMixedExts ∷ [])

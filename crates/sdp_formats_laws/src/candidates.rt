@@ -2,8 +2,8 @@
 
 ghost use Rattle.sdp_formats_laws.specs.Candidates.{AddedAreEachOnce, OneListIsEachOnce};
 
-/// The candidates of a text, each once, are exactly those that are there and no others, none twice, and in the order in
-/// which they are first there (RFC 8839 5.1). One list is so.
+/// The candidates of a text are listed each once, in the order of their first occurrence (RFC 8839
+/// 5.1). There is exactly one such list.
 pub fn candidates_once_law()
     ensures exactly { AddedAreEachOnce }
     ensures one { OneListIsEachOnce }

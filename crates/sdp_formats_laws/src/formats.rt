@@ -16,13 +16,14 @@ pub fn format_parts_law()
     ensures last_numbers { LastNumbersAreLast }
 {}
 
-/// The format parameters of a line are exactly these (RFC 8866 6.15). A flag is on where the last value of its key is
-/// 1, off where that is anything else, and not given where no part gives a value of its key (RFC 7587 6.1). A number is
-/// that of the last value of its key that is one; but where a part gives a tier or level of H.265 or H.266, that of the
-/// last value alone, and then it isn't given where that is none. The range of telephone events is the last that is
-/// given (RFC 4733 2.4.1). Where a part gives a tier or level, the last values of `profile-id`, `tier-flag` and
-/// `level-id` are the profile, tier and level of H.265, else of H.266, if they mean one (RFC 7798 7.1, RFC 9328 7.2),
-/// and `profile-id` is no number; elsewhere no profile, tier and level is given.
+/// The format parameters of a line are exactly these (RFC 8866 6.15). A flag is on if the last
+/// value of its key is 1, off for any other value, and not given if no part gives its key a value
+/// (RFC 7587 6.1). A number is the last value of its key that parses; but if a part gives a tier or
+/// level of H.265 or H.266, it is the last value, and not given if that doesn't parse. The range of
+/// telephone events is the last one given (RFC 4733 2.4.1). If a part gives a tier or level, the
+/// last values of `profile-id`, `tier-flag` and `level-id` make the profile, tier and level of
+/// H.265, or else of H.266, if they mean one (RFC 7798 7.1, RFC 9328 7.2), and `profile-id` is not
+/// a number of its own; otherwise no profile, tier and level is given.
 pub fn format_values_law()
     ensures { FormatsAreOfLines }
 {}

@@ -36,7 +36,6 @@ pub use rows::{
     static_types_law, writable_row_texts_law, written_row_texts_law,
 };
 pub use rows_back::plain_rows_come_back;
-pub use sdp_formats_data::candidate_equality_law;
 pub use sections::{section_formats_law, section_links_law};
 pub use sources::sources_once_law;
 pub use texts::{fits_nowhere_law, line_ends_law, printed_texts_law};

@@ -8,10 +8,10 @@ ghost use Rattle.sdp_formats_laws.specs.PrintedParameters.{IsReadBack};
 ghost use Rattle.sdp_formats_laws.specs.Printable.{IsPrintable};
 ghost use Rattle.sdp_formats_laws.specs.PrintableSession.{IsPrintable as IsPrintableInSession};
 ghost use Rattle.sdp_formats_laws.specs.RestrictionTexts.{LimitsAreExact, RestrictionsAreExact};
-ghost use Rattle.sdp_formats_attributes.specs.Choice.{attribute_line};
-ghost use Rattle.sdp_formats_attributes.specs.AsRead.{as_read};
+ghost use Rattle.sdp_formats_reader.specs.AttributesChoice.{attribute_line};
+ghost use Rattle.sdp_formats_reader.specs.AsRead.{as_read};
 ghost use Rattle.sdp_formats_grammar.specs.Line.{LineOf};
-ghost use Rattle.sdp_formats_reader.specs.Choice.{attribute_line as session_line};
+ghost use Rattle.sdp_formats_reader.specs.ReaderChoice.{attribute_line as session_line};
 ghost use Rattle.sdp_formats_data.specs.PrintedMedia.{attribute_text};
 ghost use Rattle.sdp_formats_data.specs.PrintedSession.{attribute_text as session_attribute_text};
 ghost use Rattle.sdp_formats_data.specs.declared.session.SessionAttribute.{SessionAttribute};
@@ -22,9 +22,8 @@ ghost use Rattle.sdp_formats_data.specs.declared.media.MediaAttribute.{MediaAttr
 ghost use Rattle.sdp_formats_data.specs.declared.media.MediaAttribute.TheVariants.{Fmtp};
 
 use crate::printed_parameters::parameter_lists_law;
-use sdp_formats_attributes::{MediaAttributeLine, printed_pairs_law};
 use sdp_formats_grammar::Lined;
-use sdp_formats_reader::SessionAttributeLine;
+use sdp_formats_reader::{MediaAttributeLine, SessionAttributeLine, printed_pairs_law};
 
 /// The printed line of a printable attribute is read as that attribute, whatever stands behind it.
 ///

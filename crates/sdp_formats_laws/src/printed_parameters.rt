@@ -1,16 +1,14 @@
-//! What printed parameters are read as.
+//! How printed parameters are read back.
 
 ghost use Rattle.std.specs.Prelude.{◌≡◌};
-ghost use Rattle.h26x_payload_profiles.specs.H265ProfileTierLevel.{fallback as h265_fallback};
-ghost use Rattle.h26x_payload_profiles.specs.H266ProfileTierLevel.{fallback as h266_fallback};
+ghost use Rattle.media_types.specs.H265ProfileTierLevel.{fallback as h265_fallback};
+ghost use Rattle.media_types.specs.H266ProfileTierLevel.{fallback as h266_fallback};
 ghost use Rattle.sdp_formats_laws.specs.PrintedParameters.{FormatsComeBack, LinksComeBack, PlainParametersAreReadable};
 ghost use Rattle.sdp_formats_laws.specs.PrintedParameters.{PlainFormatsAreInRange, PlainParametersComeBack};
 ghost use Rattle.sdp_formats_laws.specs.PrintedParameters.{ReadableListsComeBack, RowsAreAsPlainAsTheirOthers};
 
-use h26x_payload_profiles::{
-    H265ProfileTierLevel, H266ProfileTierLevel, h265_tables_law, h266_tables_law,
-};
-use sdp_formats_attributes::{pairs_law, printed_pairs_law};
+use media_types::{H265ProfileTierLevel, H266ProfileTierLevel, h265_tables_law, h266_tables_law};
+use sdp_formats_reader::{pairs_law, printed_pairs_law};
 
 /// Readable lists of parameters are read as they are printed (RFC 8866 6.15), a profile, tier and level in front of the
 /// others: lists of parameters of a key and a value, in any order; lists with one profile, tier and level, and others

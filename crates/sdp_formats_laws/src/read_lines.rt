@@ -5,9 +5,8 @@ ghost use Rattle.sdp_formats_laws.specs.PlainRounds.{RoundsKeepPlainRows};
 ghost use Rattle.sdp_formats_laws.specs.ReadLines.{ReadLinesAreSound, SoundLinesGiveSoundRows};
 
 use crate::printed_parameters::formats_law;
-use sdp_formats_attributes::MediaAttributeLine;
 use sdp_formats_grammar::Lined;
-use sdp_formats_reader::SessionAttributeLine;
+use sdp_formats_reader::{MediaAttributeLine, SessionAttributeLine};
 use sdp_formats_rounds::rounds_keep_widths;
 
 /// A text says one session with its sections at most, and leaves one rest; and so does a text of a session alone.

@@ -11,9 +11,8 @@ ghost use Rattle.sdp_formats_laws.specs.WrittenSession.{WrittenRowTextsComeBack}
 use crate::printed_parameters::{parameter_lists_law, plain_parameters_law};
 use crate::rows_back::plain_rows_come_back;
 use crate::texts::printed_texts_law;
-use sdp_formats_attributes::{MediaAttributeLine, printed_pairs_law};
 use sdp_formats_grammar::Lined;
-use sdp_formats_reader::SessionAttributeLine;
+use sdp_formats_reader::{MediaAttributeLine, SessionAttributeLine, printed_pairs_law};
 
 /// A section that lists plain rows, as `as_media_attrs` gives their attributes, can be printed: each of its lines is
 /// read as what it was printed of.

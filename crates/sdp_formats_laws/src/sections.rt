@@ -3,11 +3,11 @@
 ghost use Rattle.sdp_formats_laws.specs.SectionFormats.{FormatsAreOfSections};
 ghost use Rattle.sdp_formats_laws.specs.SectionLinks.{LastLinksCount};
 
-/// The format that a section gives a codec under a payload type is exactly this (RFC 8866 6.15). Telephone events are
-/// up to 16 where no line `a=fmtp` is of the type, and up to X where one line is and it holds one range `0-X` alone;
-/// other lines give no format (RFC 4733 2.4.1). AMR-WB has no format where a parameter of the type needs what isn't
-/// supported (RFC 4867 8.2). Else each parameter of the format is the last of its kind among those of the type's
-/// lines, not given where there is none.
+/// The format that a section gives a codec with a payload type is exactly this (RFC 8866 6.15).
+/// Telephone events: up to 16 if no `a=fmtp` line has the type; up to X if exactly one has it and
+/// holds only a range `0-X`; otherwise no format (RFC 4733 2.4.1). AMR-WB: no format if a parameter
+/// needs an unsupported feature (RFC 4867 8.2). Otherwise each parameter is the last of its kind in
+/// the type's lines, or not given.
 pub fn section_formats_law()
     ensures { FormatsAreOfSections }
 {}

@@ -1,4 +1,4 @@
-//! Session texts that are read as they are printed.
+//! SDP that is read back as it was printed.
 
 ghost use Rattle.std.specs.Prelude.{[], IsTrue};
 ghost use Rattle.std.specs.List.{list_all};
@@ -6,12 +6,8 @@ ghost use Rattle.sdp_formats_laws.specs.Behind.{OthersFitNowhere, SessionStaysWi
 ghost use Rattle.sdp_formats_laws.specs.Behind.{StaysWithWhatFitsNowhere};
 ghost use Rattle.sdp_formats_laws.specs.LineEnds.{LinesEndEitherWay, ReadsByAnyEnd, ReadsBySameLines};
 ghost use Rattle.sdp_formats_laws.specs.LineEnds.{ReadsSessionBySameLines};
-ghost use Rattle.sdp_formats_laws.specs.PrintableTexts.{
-  IsEach,
-  IsPrintableSession,
-  IsPrintableText,
-  HasLinesThatComeBack,
-};
+ghost use Rattle.sdp_formats_rounds.specs.Members.{IsEach};
+ghost use Rattle.sdp_formats_laws.specs.PrintableTexts.{IsPrintableSession, IsPrintableText, HasLinesThatComeBack};
 ghost use Rattle.sdp_formats_laws.specs.ReadTexts.{text_as_read};
 ghost use Rattle.sdp_formats_data.specs.Consistency.{is_consistent};
 ghost use Rattle.sdp_formats_reader.specs.Grammar.{SdpSays, SessionSays};
@@ -20,9 +16,8 @@ ghost use Rattle.sdp_formats_data.specs.declared.session.Sdp.{Sdp};
 ghost use Rattle.sdp_formats_data.specs.declared.session.Session.{Session};
 
 use crate::printed_parameters::parameter_lists_law;
-use sdp_formats_attributes::{MediaAttributeLine, printed_pairs_law};
 use sdp_formats_grammar::Lined;
-use sdp_formats_reader::SessionAttributeLine;
+use sdp_formats_reader::{MediaAttributeLine, SessionAttributeLine, printed_pairs_law};
 
 /// The printed text of a session is read whole as that session, where its texts can stand where they are printed and no
 /// section has a fault; of lines `a=fmtp` as `printed_lines_law` says. So is a session without sections, and any text
@@ -39,9 +34,9 @@ pub fn printed_texts_law()
     parameter_lists_law();
 }
 
-/// A text of lines that LF ends is read as the same text of lines that CR LF ends, and the other way round (RFC 8866
-/// 5). So are two texts of the same lines, each of which LF or CR LF ends, be it the same end in both texts or not; and
-/// so are sessions without sections.
+/// A text whose lines end in LF is read like the same text with CR LF, and vice versa (RFC 8866 5).
+/// So are any two texts with the same lines, each ended by LF or CR LF independently; and sessions
+/// without sections.
 pub fn line_ends_law()
     ensures returns { ReadsByAnyEnd }
     ensures lines { ReadsBySameLines }
@@ -49,12 +44,13 @@ pub fn line_ends_law()
     ensures either { LinesEndEitherWay }
 {}
 
-/// What is read of a text, the last line of which is ended, stays the same with another text behind it, but for the
-/// rest, exactly where the text leaves something unread already, or the other one fits nowhere behind it (RFC 8866 5):
-/// behind sections where it begins with no attribute of a section and with no section, as `b=AS:5` does; behind a
-/// session alone where it begins with no attribute of a session, no section and, where there is no attribute yet, no
-/// line `r=`. Of a session that is read alone a section is left unread too. What begins with none of the letters `a`,
-/// `m` and `r` fits nowhere behind any session.
+/// Take a text whose last line is terminated, and append another text. What is read of it stays the
+/// same (apart from the rest) if and only if something of it was left unread anyway, or the
+/// appended text can't follow it (RFC 8866 5). After sections, a text can't follow if it begins
+/// with no media attribute and no section, such as `b=AS:5`; after a session alone, if it begins
+/// with no session attribute, no section and, if there is no attribute yet, no `r=` line. A session
+/// read on its own also leaves sections unread. A text that begins with none of `a`, `m` and `r`
+/// can't follow any session.
 pub fn fits_nowhere_law()
     ensures same { StaysWithWhatFitsNowhere }
     ensures session { SessionStaysWithWhatFitsNowhere }

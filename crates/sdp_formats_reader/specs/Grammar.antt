@@ -1,4 +1,4 @@
--- What a session text says (RFC 8866 5).
+-- What an SDP says (RFC 8866 5): the grammar.
 use Rattle.std.specs.Prelude.{◌≡◌, ℕ, IsTrue, List, Option, Result, Ok, Err}
 use Rattle.std.specs.Borrow.{Bor}
 use Rattle.std.specs.List.{list_all}
@@ -8,8 +8,8 @@ use Rattle.sdp_formats_reader.specs.Lines.{version_line, origin_line, name_line,
 use Rattle.sdp_formats_reader.specs.Lines.{times_line, repeat_line, connection_line, head_line}
 use Rattle.sdp_formats_reader.specs.declared.media.MediaHead.{MediaHead}
 use Rattle.sdp_formats_reader.specs.declared.passed.Passed.{Passed}
-use Rattle.sdp_formats_attributes.specs.Choice.{attribute_line as media_line}
-use Rattle.sdp_formats_reader.specs.Choice.{attribute_line as session_line}
+use Rattle.sdp_formats_reader.specs.AttributesChoice.{attribute_line as media_line}
+use Rattle.sdp_formats_reader.specs.ReaderChoice.{attribute_line as session_line}
 use Rattle.sdp_formats_grammar.specs.Line.{LineOf}
 use Rattle.sdp_formats_grammar.specs.Step.{Many, Perhaps}
 use Rattle.sdp_formats_data.specs.Consistency.{is_consistent}
@@ -49,14 +49,13 @@ SectionSays text section rest = (h : MediaHead) × (one : List ℕ) × LineOf he
     × (three : List ℕ) × Perhaps (LineOf bandwidth_line.Says) two section.bw three
     × Many (LineOf media_line.Says) three section.attrs rest
 
--- A session text: a header, session attributes, sections without a fault; the rest begins at the first line that fits
--- nowhere.
+-- An SDP: a header, session attributes, consistent sections; the rest begins at the first line that fits nowhere.
 unfoldable pub SdpSays : List ℕ → Sdp → List ℕ → Type 0
 SdpSays text sdp rest = (one : List ℕ) × SessionSays text sdp.session one × Many SectionSays one sdp.media_lines rest
     × IsTrue (list_all is_consistent sdp.media_lines)
 
--- What is read is what the text says, and the only such; and where nothing is read for another cause than memory, the
--- text says nothing.
+-- What is read is what the text says, and it says nothing else; if nothing is read, except for lack of memory, the text
+-- says nothing.
 unfoldable pub ReadsSdp : List ℕ → Result (Sdp × Bor (List ℕ)) Refusal → Type 0
 ReadsSdp text (Ok r) = SdpSays text r.0 r.1.now
     × ((sdp : Sdp) (rest : List ℕ) → SdpSays text sdp rest → (sdp ≡ r.0) × (rest ≡ r.1.now))

@@ -7,17 +7,17 @@ use Rattle.sdp_formats_grammar.specs.Split.{behind}
 use Rattle.sdp_formats_data.specs.declared.session.SessionAttribute.{SessionAttribute}
 use Rattle.sdp_formats_data.specs.declared.session.SessionAttribute.TheVariants.{Group, MsidSemantic}
 
--- A text without a blank at its end.
+-- A text without one trailing blank.
 abbrev pub without_last : List ℕ → List ℕ
 without_last [] = []
 without_last (b ∷ []) = if b == 32 then [] else b ∷ []
 without_last (b ∷ c ∷ t) = b ∷ without_last (c ∷ t)
 
--- A text without a blank at its beginning.
+-- A text without one leading blank.
 abbrev pub without_first : List ℕ → List ℕ
 without_first t = unwrap_or (behind (codes " ") t) t
 
--- A form of a part of the text.
+-- A form applied to a part of the text.
 abbrev pub through : {A : Type 0} → (List ℕ → List ℕ) → Form A → Form A
 through part f = record { reads = λ t. f.reads (part t); Says = λ t a. f.Says (part t) a }
 

@@ -8,12 +8,12 @@ use Rattle.sdp_formats_grammar.specs.Numbers.{has_digits_alone, number_below}
 use Rattle.sdp_formats_grammar.specs.Split.{behind, parts}
 use Rattle.sdp_formats_grammar.specs.Tables.{Table, word_of}
 use Rattle.sdp_formats_reader.specs.declared.media.MediaHead.{MediaHead}
-use Rattle.sdp_formats_data.specs.declared.MediaType.{MediaType}
-use Rattle.sdp_formats_data.specs.declared.MediaType.TheVariants.{Audio, Video, Application, Unknown}
-use Rattle.sdp_formats_data.specs.declared.Proto.{Proto}
-use Rattle.sdp_formats_data.specs.declared.Proto.TheVariants.{Srtp, Sctp}
+use Rattle.sdp_formats_values.specs.declared.media_type.MediaType.{MediaType}
+use Rattle.sdp_formats_values.specs.declared.media_type.MediaType.TheVariants.{Audio, Video, Application, Unknown}
+use Rattle.sdp_formats_values.specs.declared.media_type.Proto.{Proto}
+use Rattle.sdp_formats_values.specs.declared.media_type.Proto.TheVariants.{Srtp, Sctp}
 
--- Digits alone, no plus.
+-- Only digits, no plus.
 abbrev pub session_number : List ℕ → Option ℕ
 session_number t = if has_digits_alone t then number_below (2 ^ 64) t else None
 
@@ -32,7 +32,7 @@ unknown_type t = if is_begun t then None else option_map Unknown (some_text t)
 abbrev pub media_types : Table MediaType
 media_types = (codes "audio", Audio) ∷ (codes "video", Video) ∷ (codes "application", Application) ∷ []
 
--- A kind's name, or a word that doesn't begin with one.
+-- A known media type, or a word that doesn't begin with one.
 abbrev pub media_type : List ℕ → Option MediaType
 media_type t = option_or (word_of media_types t) (unknown_type t)
 
@@ -46,7 +46,7 @@ proto t = word_of protos t
 abbrev pub pt_number : List ℕ → Option ℕ
 pt_number t = number_below (2 ^ 8) t
 
--- Payload types between blanks; none where one isn't a number; a blank doesn't come first.
+-- Payload types separated by blanks; none if one isn't a number; no leading blank.
 abbrev pub formats : List ℕ → Option (List ℕ)
 formats t =
     if length t == 0 then Some []

@@ -1,4 +1,4 @@
--- Kinds of lines in a header and at the head of a section (RFC 8866 5).
+-- Line kinds in the header and at the start of a section (RFC 8866 5).
 use Rattle.std.specs.Prelude.{ℕ, Bool, true, false, ◌||◌, List, [], ◌∷◌, Option, Some, None, codes, if◌then◌else◌}
 use Rattle.std.specs.Str.{bytes_eq}
 use Rattle.sdp_formats_grammar.specs.Form.{Form, told, any_text, made, after, either, cut}
@@ -6,7 +6,7 @@ use Rattle.sdp_formats_grammar.specs.Split.{behind}
 use Rattle.sdp_formats_reader.specs.Heads.{origin, media_line}
 use Rattle.sdp_formats_reader.specs.declared.media.MediaHead.{MediaHead}
 use Rattle.sdp_formats_reader.specs.declared.passed.Passed.{Passed}
-use Rattle.sdp_formats_data.specs.declared.Bandwidth.{Bandwidth}
+use Rattle.sdp_formats_values.specs.declared.bandwidth.Bandwidth.{Bandwidth}
 
 abbrev pub passed : Passed
 passed = record {}
@@ -41,7 +41,7 @@ other_line =
 abbrev pub passed_if : Bool → Option Passed
 passed_if is_so = if is_so then Some passed else None
 
--- Whether a line is these words with something behind them.
+-- Whether a line begins with these words and has something after them.
 abbrev pub says_something : Option (List ℕ) → Bool
 says_something None = false
 says_something (Some []) = false

@@ -1,4 +1,4 @@
--- Whole texts of a session with one attribute more.
+-- SDP whose session has one more attribute.
 use Rattle.std.specs.Prelude.{◌∷◌}
 use Rattle.sdp_formats_data.specs.declared.session.Session.{Session}
 use Rattle.sdp_formats_data.specs.declared.session.SessionAttribute.{SessionAttribute}

@@ -8,7 +8,7 @@ use Rattle.sdp_formats_data.specs.declared.session.Session.{Session}
 use Rattle.sdp_formats_data.specs.declared.SdpError.{SdpError}
 use Rattle.sdp_formats_data.specs.declared.SdpError.TheVariants.{ParseError, Inconsistent, Memory}
 
--- What an error says of a text that isn't read.
+-- The error text for a text that can't be read.
 abbrev pub text_fault : List ℕ
 text_fault = codes "no good header, or a section with a fault"
 
@@ -19,8 +19,8 @@ header_fault = codes "no good header"
 abbrev pub SaysNothing : List ℕ → Type 0
 SaysNothing text = (sdp : Sdp) (rest : List ℕ) → SdpSays text sdp rest → ⊥
 
--- What is read is what the text says, and the only such; and where nothing is read for another cause than memory, the
--- text says nothing, and the error says so in these words.
+-- What is read is what the text says, and it says nothing else; if nothing is read, except for lack of memory, the text
+-- says nothing, and the error says so in these words.
 abbrev pub ParsesSdp : List ℕ → Result (Sdp × Bor (List ℕ)) SdpError → Type 0
 ParsesSdp text (Ok r) = SdpSays text r.0 r.1.now
     × ((sdp : Sdp) (rest : List ℕ) → SdpSays text sdp rest → (sdp ≡ r.0) × (rest ≡ r.1.now))
@@ -37,7 +37,7 @@ ParsesSession text (Err (ParseError t)) = ((session : Session) (rest : List ℕ)
     × (string_bytes t ≡ header_fault)
 ParsesSession text (Err (Inconsistent t)) = ⊥
 
--- The same of a text whose rest is passed over.
+-- The same, ignoring the rest.
 abbrev pub ReadsText : List ℕ → Result Sdp SdpError → Type 0
 ReadsText text (Ok sdp) = (rest : List ℕ) × SdpSays text sdp rest
     × ((other : Sdp) (left : List ℕ) → SdpSays text other left → other ≡ sdp)

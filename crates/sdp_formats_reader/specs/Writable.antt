@@ -1,10 +1,10 @@
 -- Sessions that can be written (RFC 8866 5).
 use Rattle.std.specs.Prelude.{◌≡◌, ◌⊎◌, Bool, true, false, All, IfSome}
 use Rattle.sdp_formats_reader.specs.Lines.{bandwidth_line}
-use Rattle.sdp_formats_reader.specs.Choice.{attribute_line}
+use Rattle.sdp_formats_reader.specs.ReaderChoice.{attribute_line}
 use Rattle.sdp_formats_values.specs.Lists.{bandwidth_text}
 use Rattle.sdp_formats_data.specs.PrintedSession.{attribute_text}
-use Rattle.sdp_formats_data.specs.declared.Bandwidth.{Bandwidth}
+use Rattle.sdp_formats_values.specs.declared.bandwidth.Bandwidth.{Bandwidth}
 use Rattle.sdp_formats_data.specs.declared.session.Session.{Session}
 use Rattle.sdp_formats_data.specs.declared.session.SessionAttribute.{SessionAttribute}
 use Rattle.sdp_formats_data.specs.declared.session.SessionAttribute.TheVariants.{Group, Unused}
@@ -20,7 +20,7 @@ abbrev pub is_unused : SessionAttribute → Bool
 is_unused (Unused text) = true
 is_unused _ = false
 
--- What is read of an attribute's line is the attribute, or one of no known kind.
+-- An attribute's line is read back as the attribute, or as a line of an unknown kind.
 abbrev pub ComesBack : SessionAttribute → SessionAttribute → Type 0
 ComesBack a b = (is_unused b ≡ true) ⊎ (b ≡ a)
 

@@ -6,11 +6,11 @@ ghost use Rattle.sdp_formats_grammar.specs.Form.{any_text, made};
 ghost use Rattle.sdp_formats_grammar.specs.Kinds.{value_of, alone_of, by_name};
 ghost use Rattle.sdp_formats_grammar.specs.Refusals.{Gives};
 ghost use Rattle.sdp_formats_grammar.specs.Split.{split_first};
-ghost use Rattle.sdp_formats_attributes.specs.Transport.{in_session, transport_kinds};
-ghost use Rattle.sdp_formats_reader.specs.Choice.{session_attribute, session_kinds};
+ghost use Rattle.sdp_formats_reader.specs.Transport.{in_session, transport_kinds};
+ghost use Rattle.sdp_formats_reader.specs.ReaderChoice.{session_attribute, session_kinds};
 
 use crate::groups::{group, msid_semantic};
-use sdp_formats_attributes::{transport_value, transport_word};
+use crate::transport::{transport_value, transport_word};
 use sdp_formats_data::SessionAttribute;
 use sdp_formats_grammar::{Lined, Refusal, Stepped, behind, fitted, line_of, named, text_of};
 use std::alloc::Global;
@@ -73,7 +73,7 @@ fn session_attribute(alloc: Global, text: &str) -> Result<SessionAttribute, Refu
 pub struct SessionAttributeLine;
 
 impl Lined<SessionAttribute> for SessionAttributeLine {
-    ghost use Rattle.sdp_formats_reader.specs.Choice.{attribute_line};
+    ghost use Rattle.sdp_formats_reader.specs.ReaderChoice.{attribute_line};
 
     ghost form = { attribute_line };
 
@@ -87,7 +87,7 @@ impl Lined<SessionAttribute> for SessionAttributeLine {
 
 impl Stepped<SessionAttribute> for SessionAttributeLine {
     ghost use Rattle.sdp_formats_grammar.specs.Line.{LineOf};
-    ghost use Rattle.sdp_formats_reader.specs.Choice.{attribute_line};
+    ghost use Rattle.sdp_formats_reader.specs.ReaderChoice.{attribute_line};
 
     ghost says = { LineOf attribute_line.Says };
 

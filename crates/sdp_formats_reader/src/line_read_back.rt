@@ -2,17 +2,16 @@
 
 ghost use Rattle.std.specs.Prelude.{◌≡◌, ◌↔◌, ◌&&◌, ◌==◌, IsTrue, IfOk, length};
 ghost use Rattle.sdp_formats_reader.specs.Lines.{bandwidth_line};
-ghost use Rattle.sdp_formats_reader.specs.Choice.{attribute_line};
+ghost use Rattle.sdp_formats_reader.specs.ReaderChoice.{attribute_line};
 ghost use Rattle.sdp_formats_reader.specs.WholeLines.{IsLineOf};
 ghost use Rattle.sdp_formats_reader.specs.Writable.{is_group, is_unused, ComesBack, IsWritableAttribute};
 ghost use Rattle.sdp_formats_reader.specs.Writable.{IsWritableBandwidth};
 
 use crate::attribute_choice::SessionAttributeLine;
 use crate::origin_lines::BandwidthLine;
-use sdp_formats_data::{
-    Bandwidth, SessionAttribute, bandwidth_equality_law, session_attribute_equality_law,
-};
+use sdp_formats_data::{SessionAttribute, bandwidth_equality_law, session_attribute_equality_law};
 use sdp_formats_grammar::{Lined, Refusal, Stepped};
+use sdp_formats_values::Bandwidth;
 use std::alloc::{AllocError, Global};
 
 fn is_group(attribute: &SessionAttribute) -> bool

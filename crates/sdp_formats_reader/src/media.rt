@@ -6,11 +6,11 @@ ghost use Rattle.sdp_formats_reader.specs.Heads.{media_type, unknown_type, is_be
 ghost use Rattle.sdp_formats_reader.specs.Heads.{media_line};
 
 use rtp_wire::Pt;
-use sdp_formats_data::{MediaType, Proto};
 use sdp_formats_grammar::{
     Lined, Listed, Reads, Refusal, behind, fitted, list_of, number_8, some, split, stripped,
     text_of,
 };
+use sdp_formats_values::{MediaType, Proto};
 use std::alloc::Global;
 
 /// What a line `m=` says (RFC 8866 5.14).

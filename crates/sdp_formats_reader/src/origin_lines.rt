@@ -1,8 +1,8 @@
 //! The lines `o=` and `b=` (RFC 8866 5.2 and 5.8).
 
 use crate::originator::origin;
-use sdp_formats_data::Bandwidth;
 use sdp_formats_grammar::{Lined, Refusal, Stepped, behind, line_of, split, text_of};
+use sdp_formats_values::Bandwidth;
 use std::alloc::Global;
 
 /// The line `o=`: the session's number.

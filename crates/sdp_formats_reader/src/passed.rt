@@ -46,7 +46,7 @@ fn exactly(text: &str, words: &str) -> Result<Passed, Refusal>
     passed_if(text == words)
 }
 
-/// Whether a line begins with these words and says something behind them.
+/// Whether a line begins with these words and has something after them.
 fn is_lettered(content: &str, words: &str) -> bool
     ensures { result ≡ is_lettered words.now content.now }
 {

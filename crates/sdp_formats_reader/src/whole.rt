@@ -6,9 +6,9 @@ ghost use Rattle.sdp_formats_data.specs.Consistency.{is_consistent};
 ghost use Rattle.sdp_formats_reader.specs.Grammar.{ReadsSdp, ReadsSession};
 
 use crate::attribute_choice::SessionAttributeLine;
+use crate::choice::MediaAttributeLine;
 use crate::header::session;
 use crate::section::SectionStep;
-use sdp_formats_attributes::MediaAttributeLine;
 use sdp_formats_data::{MediaAttribute, MediaLine, Sdp, Session, SessionAttribute, are_consistent};
 use sdp_formats_grammar::{Lined, Refusal, many};
 use std::alloc::Global;

@@ -4,7 +4,8 @@ ghost use Rattle.std.specs.Prelude.{◌↔◌, IsTrue, IfOk, IfSome, All};
 ghost use Rattle.sdp_formats_reader.specs.Writable.{IsWritableAttribute, IsWritableBandwidth, IsWritableSession};
 
 use crate::line_read_back::{is_writable_attribute, is_writable_bandwidth};
-use sdp_formats_data::{Bandwidth, Session, SessionAttribute};
+use sdp_formats_data::{Session, SessionAttribute};
+use sdp_formats_values::Bandwidth;
 use std::alloc::{AllocError, Global};
 
 fn are_writable(alloc: Global, attributes: &[SessionAttribute]) -> Result<bool, AllocError>

@@ -3,7 +3,7 @@ use Rattle.std.proofs.Common.{◌≡◌, ◌≢◌, Bool, true, false, not, ◌&
 use Rattle.std.proofs.Common.{Some, None, Ok, if◌then◌else◌, subst}
 use Rattle.std.specs.Prelude.{filter, is_none}
 use Rattle.sdp_formats_rows.specs.Rows.{Row}
-use Rattle.payload_core_base.specs.declared.codec.Codec.TheVariants.{AmrWb}
+use Rattle.media_types.specs.declared.codec.Codec.TheVariants.{AmrWb}
 use Rattle.sdp_formats_rows.specs.Codecs.{is_codec}
 use Rattle.sdp_formats_rounds.specs.Best.{best_row}
 use Rattle.sdp_formats_rows.specs.Scores.{score}

@@ -3,7 +3,7 @@ use Rattle.std.proofs.Common.{◌≡◌, ◌≢◌, ℕ, Bool, true, false, ◌&
 use Rattle.std.proofs.Common.{◌∷◌, ◌++◌, refl, sym, ◌∙◌, ap, Option, Some}
 use Rattle.std.proofs.Common.{None, Ok, if◌then◌else◌}
 use Rattle.std.specs.Prelude.{is_none}
-use Rattle.payload_core_base.specs.Codecs.{is_audio_codec}
+use Rattle.media_types.specs.Codecs.{is_audio_codec}
 use Rattle.sdp_formats_rows.specs.Rows.{Row}
 use Rattle.sdp_formats_rounds.specs.declared.claims.Own.{Own}
 use Rattle.sdp_formats_rounds.specs.declared.claims.Role.TheVariants.{Main, Resend}

@@ -3,7 +3,7 @@ use Rattle.std.proofs.Common.{◌≡◌, ℕ, Bool, true, false, ◌&&◌, ◌||
 use Rattle.std.proofs.Common.{Option, Some, None, Ok, inl, inr}
 use Rattle.std.specs.Prelude.{is_none}
 use Rattle.std.specs.List.{list_all}
-use Rattle.payload_core_base.specs.Codecs.{is_audio_codec}
+use Rattle.media_types.specs.Codecs.{is_audio_codec}
 use Rattle.sdp_formats_rows.specs.Plain.{has_plain_feedback, has_plain_red, has_plain_types}
 use Rattle.sdp_formats_rows.specs.Plain.{has_plain_events, has_plain_level, is_plain_codec}
 use Rattle.sdp_formats_rows.specs.Rows.{Row}

@@ -3,7 +3,7 @@ use Rattle.std.proofs.Common.{◌≡◌, ℕ, Bool, true, false, ◌&&◌, nat_l
 use Rattle.std.proofs.Common.{Some, None, Result, Ok, Err, find, if◌then◌else◌}
 use Rattle.std.proofs.lemmas.Grind.{common_steps}
 use Rattle.std.specs.List.{list_all}
-use Rattle.payload_core_base.specs.Codecs.{is_audio_codec}
+use Rattle.media_types.specs.Codecs.{is_audio_codec}
 use Rattle.sdp_formats_rows.specs.Plain.{has_plain_types, is_type}
 use Rattle.sdp_formats_rows.specs.Rows.{Row}
 use Rattle.sdp_formats_rounds.specs.declared.error.RoundError.{RoundError}

@@ -5,7 +5,7 @@ use Rattle.std.specs.List.{list_any}
 use Rattle.std.proofs.lemmas.Grind.{common_steps}
 use Rattle.std.proofs.lemmas.List.Folds.{list_any-append}
 use Rattle.sdp_formats_rows.specs.Rows.{Row}
-use Rattle.payload_core_base.specs.Codecs.{is_audio_codec}
+use Rattle.media_types.specs.Codecs.{is_audio_codec}
 use Rattle.sdp_formats_rounds.specs.declared.claims.Role.TheVariants.{Main}
 use Rattle.sdp_formats_rounds.specs.Best.{best_row}
 use Rattle.sdp_formats_rounds.specs.Types.{has_type, is_claimed, is_locked_type, locked_types}

@@ -4,15 +4,15 @@ use Rattle.std.proofs.Common.{arith, inl, inr, min}
 use Rattle.std.specs.Prelude.{◌⊎◌, IfSome, is_none, is_some, unwrap_or}
 use Rattle.std.specs.Option.{option_or}
 use Rattle.std.proofs.lemmas.Grind.{common_steps}
-use Rattle.payload_core_base.specs.declared.codec.Codec.{Codec}
-use Rattle.payload_core_base.specs.declared.codec.Codec.TheVariants.{AmrWb, H265, H266, Tele}
-use Rattle.sdp_formats_params.specs.FormatScores.{given_265, given_266}
-use Rattle.sdp_formats_params.specs.LevelScore.{GivenH265, GivenH266, agreed_by, h265_agreed, h266_agreed}
-use Rattle.sdp_formats_params.specs.LevelScore.{place_265, place_266}
-use Rattle.sdp_formats_params.specs.Formats.{no_format}
-use Rattle.sdp_formats_params.specs.Same.{same, same_flag, same_format, same_h264, same_levels, same_opus, same_video}
-use Rattle.sdp_formats_params.specs.declared.level_scores.GivenLevel.{GivenLevel}
-use Rattle.sdp_formats_params.specs.declared.format.FormatParams.{FormatParams}
+use Rattle.media_types.specs.declared.codec.Codec.{Codec}
+use Rattle.media_types.specs.declared.codec.Codec.TheVariants.{AmrWb, H265, H266, Tele}
+use Rattle.sdp_formats_rows.specs.FormatScores.{given_265, given_266}
+use Rattle.sdp_formats_rows.specs.LevelScore.{GivenH265, GivenH266, agreed_by, h265_agreed, h266_agreed}
+use Rattle.sdp_formats_rows.specs.LevelScore.{place_265, place_266}
+use Rattle.sdp_formats_rows.specs.Formats.{no_format}
+use Rattle.sdp_formats_rows.specs.Same.{same, same_flag, same_format, same_h264, same_levels, same_opus, same_video}
+use Rattle.sdp_formats_rows.specs.declared.level_scores.GivenLevel.{GivenLevel}
+use Rattle.sdp_formats_rows.specs.declared.format.FormatParams.{FormatParams}
 use Rattle.sdp_formats_rows.specs.Codecs.{full_spec}
 use Rattle.sdp_formats_rows.specs.Plain.{events_alone, has_plain_events, has_plain_level, is_plain_codec}
 use Rattle.sdp_formats_rows.specs.declared.spec.CodecSpec.{CodecSpec}

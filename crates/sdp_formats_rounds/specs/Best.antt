@@ -1,4 +1,4 @@
--- The last row of greatest score.
+-- The last row with the highest score.
 use Rattle.std.specs.Prelude.{◌≡◌, ℕ, Bool, true, false, IsTrue, nat_le, nat_lt, Option, Some, None, is_none, List, ◌∷◌}
 use Rattle.std.specs.Prelude.{◌++◌, fold, if◌then◌else◌}
 use Rattle.std.specs.List.{list_all}
@@ -6,7 +6,7 @@ use Rattle.sdp_formats_rows.specs.declared.spec.CodecSpec.{CodecSpec}
 use Rattle.sdp_formats_rows.specs.Rows.{Row}
 use Rattle.sdp_formats_rows.specs.Scores.{score}
 
--- Whether these points are there and no fewer than the best so far.
+-- Whether there are points, and no fewer than the best so far.
 abbrev pub is_reached : Option ℕ → Option ℕ → Bool
 is_reached best None = false
 is_reached None (Some points) = true
@@ -32,7 +32,7 @@ abbrev pub is_below : ℕ → Option ℕ → Bool
 is_below points None = true
 is_below points (Some p) = nat_lt p points
 
--- The row matches, none before it matches better, and none behind it as well.
+-- The row matches, none before it has more points, and none after it has as many.
 pub record IsBest (spec : CodecSpec) (rows : List Row) (best : Row) : Type 0 where
   pub before : List Row
   pub behind : List Row
@@ -42,7 +42,7 @@ pub record IsBest (spec : CodecSpec) (rows : List Row) (best : Row) : Type 0 whe
   pub none_better : IsTrue (list_all (λ row. is_at_most points (score spec row.spec)) before)
   pub last : IsTrue (list_all (λ row. is_below points (score spec row.spec)) behind)
 
--- The best row is the last of the greatest score; where there is none, no row matches.
+-- The best row is the last with the highest score; if there is none, no row matches.
 abbrev pub BestIsBest : Type 0
 BestIsBest = (spec : CodecSpec) (rows : List Row) (best : Row) → best_row spec rows ≡ Some best
     → IsBest spec rows best

@@ -2,8 +2,8 @@
 use Rattle.std.specs.Prelude.{◌≡◌, ◌≢◌, ◌⊎◌, ◌==◌, ℕ, Bool, true, false, not, ◌&&◌, List, [], ◌∷◌, Some, None, Result}
 use Rattle.std.specs.Prelude.{Ok, ⊤, is_none}
 use Rattle.std.specs.List.{list_any}
-use Rattle.payload_core_base.specs.Codecs.{is_audio_codec}
-use Rattle.payload_core_base.specs.declared.codec.Codec.TheVariants.{AmrWb}
+use Rattle.media_types.specs.Codecs.{is_audio_codec}
+use Rattle.media_types.specs.declared.codec.Codec.TheVariants.{AmrWb}
 use Rattle.sdp_formats_rows.specs.Codecs.{is_codec}
 use Rattle.sdp_formats_rows.specs.Rows.{Row}
 use Rattle.sdp_formats_rounds.specs.Best.{best_row}
@@ -30,14 +30,14 @@ Along R (x ∷ xs) (y ∷ ys) = R x y × Along R xs ys
 Along R [] (y ∷ ys) = ⊥
 Along R (x ∷ xs) [] = ⊥
 
--- All feedback but transport-wide feedback is as it was.
+-- All feedback except transport-wide feedback is unchanged.
 abbrev pub KeepsFeedback : Row → Row → Type 0
 KeepsFeedback row new =
     (new.nack ≡ row.nack) × (new.pli ≡ row.pli) × (new.fir ≡ row.fir) × (new.remb ≡ row.remb)
 
--- The row has what a match with one of the remote rows leaves of its settings, and where types are dictated that
--- row's type and RTX type. It has an RTX type just where that row has one, and a RED type only where both rows of
--- audio have one.
+-- The row has the settings negotiated with one of the remote rows and, if types are dictated, that row's payload type
+-- and RTX type. It has an RTX type if and only if that row has one, and a RED type only if both rows are audio and have
+-- one.
 pub record IsTakenFrom (dictated : Bool) (remote : List Row) (row new : Row) : Type 0 where
   pub best : Row
   pub one_of : IsIn best remote
@@ -49,14 +49,11 @@ pub record IsTakenFrom (dictated : Bool) (remote : List Row) (row new : Row) : T
   pub resend : is_none new.resend ≡ is_none best.resend
   pub red : (t : ℕ) → new.red ≡ Some t → (is_audio_codec row.spec.codec ≡ true) × (row.red ≢ None) × (best.red ≢ None)
 
--- What a round makes of a row.
--- A locked row keeps all but what a match leaves of its settings.
--- Another row that is locked by it has the settings that the match with a remote row leaves, and where types are
--- dictated that row's type and RTX type.
--- A row that isn't locked by it keeps its settings and its feedback.
--- A row that no remote row matches keeps its settings and stays locked or unlocked. One that a remote row matches is
--- locked, but for AMR-WB where types are dictated, whose best row may be under a type that is claimed.
--- No row's feedback changes but transport-wide feedback.
+-- What a round makes of a row. A locked row changes only in its negotiated settings. A row locked by the round has the
+-- settings negotiated with its remote match and, if types are dictated, that row's payload type and RTX type. A row not
+-- locked by it keeps its settings and feedback. A row without a remote match keeps its settings and its lock state. A
+-- row with a remote match is locked, except AMR-WB with dictated types, whose best match may have a claimed type. Only
+-- transport-wide feedback can change.
 pub record Becomes (dictated : Bool) (remote : List Row) (row new : Row) : Type 0 where
   pub stands : row.locked ≡ true → new ≡ restated row (best_row row.spec remote)
   pub locks : row.locked ≡ false → new.locked ≡ true → IsTakenFrom dictated remote row new
@@ -91,18 +88,18 @@ abbrev pub UnlockedRowsApart : Type 0
 UnlockedRowsApart = (dictated : Bool) (remote rows after : List Row) → round dictated remote rows ≡ Ok after
     → Along (IsApart (locked_types after)) rows after
 
--- A row that isn't locked and meets a row of the other end takes over its type, unless that is among these.
+-- An unlocked row with a remote match takes over its payload type, unless that is one of these.
 abbrev pub TakesOver : List Row → List ℕ → Row → Row → Type 0
 TakesOver remote types row new = (best : Row) → row.locked ≡ false → best_row row.spec remote ≡ Some best
     → (new.pt ≡ best.pt) ⊎ (is_among types best.pt ≡ true)
 
--- Where types aren't dictated, a type that is suggested is taken over, unless a locked row has it after the round.
+-- If types aren't dictated, a suggested type is taken over unless a locked row has it after the round.
 abbrev pub SuggestedTypesTaken : Type 0
 SuggestedTypesTaken = (remote rows after : List Row) → round false remote rows ≡ Ok after
     → Along (TakesOver remote (locked_types after)) rows after
 
--- Rounds one after the other, as of the sections of a text: each with its rows and whether it dictates types. The
--- first refusal ends them.
+-- Rounds in sequence, one for each section of a text, each with its rows and whether it dictates types. The first
+-- refusal ends them.
 pub record Section : Type 0 where
   pub rows : List Row
   pub dictated : Bool
@@ -118,7 +115,7 @@ pub record Keeps (row new : Row) : Type 0 where
   pub resend : row.locked ≡ true → new.resend ≡ row.resend
   pub red : row.locked ≡ true → new.red ≡ row.red
 
--- In whatever rounds follow, a locked row keeps its types.
+-- A locked row keeps its types in all later rounds.
 abbrev pub LockedRowsKeepTypes : Type 0
 LockedRowsKeepTypes = (sections : List Section) (rows after : List Row) → rounds sections rows ≡ Ok after
     → Along Keeps rows after

@@ -1,8 +1,3 @@
-pub use Rattle.sdp_formats_rows.specs.Codecs
-pub use Rattle.sdp_formats_rows.specs.Kinds
-pub use Rattle.sdp_formats_rows.specs.Plain
-pub use Rattle.sdp_formats_rows.specs.Replaced
-pub use Rattle.sdp_formats_rows.specs.Rows
 pub mod Best
 pub mod Chosen
 pub mod Configs
@@ -10,11 +5,14 @@ pub mod Finding
 pub mod Laws
 pub mod Matching
 pub mod Members
+pub mod Named
 pub mod Negotiated
 pub mod PlainLaws
 pub mod Ranges
 pub mod RemoteSections
+pub mod Rounded
 pub mod Rounds
+pub mod Standing
 pub mod Turns
 pub mod TypeLaws
 pub mod Types

@@ -1,14 +1,14 @@
--- What rounds keep of plain rows.
+-- What rounds preserve of plain rows.
 use Rattle.std.specs.Prelude.{◌≡◌, ◌<◌, ◌≤◌, ◌^◌, true, List, Ok, IfSome}
-use Rattle.sdp_formats_params.specs.declared.format.FormatParams.{FormatParams}
+use Rattle.sdp_formats_rows.specs.declared.format.FormatParams.{FormatParams}
 use Rattle.sdp_formats_rows.specs.Plain.{has_plain_others}
 use Rattle.sdp_formats_rows.specs.Rows.{Row}
 use Rattle.sdp_formats_rounds.specs.Laws.{Section, rounds}
 use Rattle.sdp_formats_rounds.specs.Members.{IsEach}
 use Rattle.sdp_formats_rounds.specs.Ranges.{IsInRange, IsModes, OneLevel}
 
--- What another end's format may pass on to an own one is of its width, as in each format that is read of a text: modes
--- of AMR-WB, numbers of decoding order and `profile-id`.
+-- The values an own format may take over from another end's fit their ranges, as they do in every format read of a
+-- text: AMR-WB modes, `sprop-max-don-diff` and `profile-id`.
 pub record IsSoundFormat (f : FormatParams) : Type 0 where
   pub modes : IfSome f.mode_set IsModes
   pub don_diff : IfSome f.sprop_max_don_diff (λ n. n ≤ 32767)
@@ -20,14 +20,14 @@ IsSoundRow row = IsSoundFormat row.spec.format
 abbrev pub AreSound : Section → Type 0
 AreSound s = IsEach IsSoundRow s.rows
 
--- A row that is plain but for what its format is printed as, and a format whose numbers are of their widths, with one
--- profile, tier and level at most.
+-- A row that is plain except perhaps for how its format prints; the format's numbers fit, and it has at most one
+-- profile, tier and level.
 pub record IsOfWidths (row : Row) : Type 0 where
   pub others : has_plain_others row ≡ true
   pub ranges : IsInRange row.spec.format
   pub levels : OneLevel row.spec.format
 
--- Rounds with sections of sound rows keep such rows.
+-- Rounds with sections of sound rows preserve this.
 abbrev pub RoundsKeepWidths : Type 0
 RoundsKeepWidths = (sections : List Section) (rows after : List Row) → IsEach AreSound sections
     → IsEach IsOfWidths rows → rounds sections rows ≡ Ok after → IsEach IsOfWidths after

@@ -1,13 +1,13 @@
 -- Formats and rows whose numbers are of their widths.
 use Rattle.std.specs.Prelude.{◌≡◌, ◌<◌, ◌≤◌, ◌^◌, ◌⊎◌, ℕ, Option, Some, None, IfSome}
-use Rattle.sdp_formats_params.specs.declared.format.FormatParams.{FormatParams}
+use Rattle.sdp_formats_rows.specs.declared.format.FormatParams.{FormatParams}
 use Rattle.sdp_formats_rows.specs.Rows.{Row}
 
--- One of nine modes at least (RFC 4867 8.2).
+-- At least one of nine modes (RFC 4867 8.2).
 abbrev pub IsModes : ℕ → Type 0
 IsModes modes = (0 < modes) × (modes < 2 ^ 9)
 
--- Not both.
+-- At most one of them is given.
 abbrev pub AtMostOne : {A B : Type 0} → Option A → Option B → Type 0
 AtMostOne (Some a) (Some b) = ⊥
 AtMostOne (Some a) None = Unit {0}
@@ -26,6 +26,6 @@ abbrev pub OneLevel : FormatParams → Type 0
 OneLevel f = ((f.h265_profile_tier_level ≡ None) × (f.h266_profile_tier_level ≡ None))
     ⊎ ((f.profile_id ≡ None) × AtMostOne f.h265_profile_tier_level f.h266_profile_tier_level)
 
--- A clock rate of 32 bits above 0 and channels of 8 bits, as every row of the program has.
+-- A nonzero 32-bit clock rate, and 8-bit channels, as the program's types ensure for every row.
 abbrev pub IsSized : Row → Type 0
 IsSized row = (0 < row.spec.clock_rate) × (row.spec.clock_rate < 2 ^ 32) × IfSome row.spec.channels (λ n. n < 2 ^ 8)

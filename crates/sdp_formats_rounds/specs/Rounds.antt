@@ -1,8 +1,8 @@
--- A round: the rows of an end meet those of the other end.
+-- A round: an end's rows are matched with the other end's.
 use Rattle.std.specs.Prelude.{ℕ, Bool, true, not, ◌&&◌, nat_lt, List, [], ◌∷◌, ◌++◌, filter, find, Option, Some, None}
 use Rattle.std.specs.Prelude.{Result, Ok, Err, if◌then◌else◌}
-use Rattle.payload_core_base.specs.declared.codec.Codec.TheVariants.{AmrWb}
-use Rattle.payload_core_base.specs.Codecs.{is_audio_codec}
+use Rattle.media_types.specs.declared.codec.Codec.TheVariants.{AmrWb}
+use Rattle.media_types.specs.Codecs.{is_audio_codec}
 use Rattle.sdp_formats_rows.specs.Rows.{Row}
 use Rattle.sdp_formats_rows.specs.Codecs.{is_codec}
 use Rattle.sdp_formats_rounds.specs.Best.{best_row}
@@ -15,7 +15,7 @@ use Rattle.sdp_formats_rounds.specs.declared.claims.Role.TheVariants.{Main, Rese
 use Rattle.sdp_formats_rounds.specs.Types.{is_claimed, is_locked_type, free_type}
 use Rattle.sdp_formats_rounds.specs.Turns.{and_then, in_turn}
 
--- The refusal of a type by what it is for.
+-- The refusal of a payload type, by its role.
 abbrev pub taken : Role → ℕ → RoundError
 taken Main t = TypeTaken t
 taken Resend t = ResendTaken t
@@ -31,7 +31,7 @@ given first second = record { first = Some first; second = second }
 abbrev pub tested : Role → List Row → Own → ℕ → Result Bool RoundError
 tested role rows own t = if nat_lt 127 t then Err (taken role t) else Ok (is_claimed rows own t)
 
--- A type that has to be unclaimed.
+-- A type that must not be claimed.
 abbrev pub unless_claimed : Role → ℕ → Bool → Result ℕ RoundError
 unless_claimed role t claimed = if claimed then Err (taken role t) else Ok t
 
@@ -47,8 +47,8 @@ abbrev pub found : Option ℕ → Result ℕ RoundError
 found None = Err NoFreeType
 found (Some t) = Ok t
 
--- FIRST: the rows locked before the round. None of their types may be one of a locked row before it, or stand before
--- in its own row.
+-- FIRST: the rows locked before the round. None of their types may repeat one of an earlier locked row or of the row
+-- itself.
 abbrev pub standing_types : List Row → Row → Result (Option ℕ) RoundError
 standing_types done row =
     and_then (unclaimed Main done none_given row.pt)
@@ -58,9 +58,8 @@ standing_types done row =
 abbrev pub standing_row : List Row → Row → Result Row RoundError
 standing_row done row = if row.locked then and_then (standing_types done row) (λ t. Ok row) else Ok row
 
--- SECOND: each row with its best remote row; `now` are all rows as they are by then.
--- A claimed type of the other end is refused where types are dictated; else the row falls back on its own type, and
--- then on a free one.
+-- SECOND: each row with its best remote row; `now` holds all rows as they are at this point. If types are dictated, a
+-- claimed remote type is refused; otherwise the row falls back to its own type, and then to a free one.
 abbrev pub kept_or_free : List Row → List Row → Own → ℕ → Bool → Result ℕ RoundError
 kept_or_free before now own t claimed = if claimed then found (free_type before now own) else Ok t
 
@@ -82,8 +81,8 @@ agreed_resend dictated before now own ours None = Ok None
 agreed_resend dictated before now own ours (Some theirs) =
     and_then (agreed_type Resend dictated before now own ours theirs) (λ t. Ok (Some t))
 
--- The RED type: the other end's where both have one and the codec is audio; a claimed one is given up where types are
--- dictated, else a free one is taken, if there is one (RFC 2198).
+-- The RED type: the other end's, if both have one and the codec is audio. If it is claimed: with dictated types it is
+-- dropped; otherwise a free one is taken, if there is one (RFC 2198).
 abbrev pub red_instead_of : Bool → List Row → List Row → Own → ℕ → Bool → Result (Option ℕ) RoundError
 red_instead_of dictated before now own theirs claimed =
     Ok (if claimed then (if dictated then None else free_type before now own) else Some theirs)
@@ -93,8 +92,7 @@ agreed_red dictated before now own true (Some ours) (Some theirs) =
     and_then (tested Main now own theirs) (red_instead_of dictated before now own theirs)
 agreed_red dictated before now own audio ours theirs = Ok None
 
--- The row locked under these types, with what the match leaves of its settings, and transport-wide feedback where
--- both use it.
+-- The row locked with these types, with the negotiated settings, and with transport-wide feedback if both use it.
 unfoldable pub locked_as : Row → Row → ℕ → Option ℕ → Option ℕ → Row
 locked_as row best pt resend red = record row {
   pt = pt;
@@ -117,8 +115,7 @@ abbrev pub matched_if : Bool → List Row → List Row → Row → Option Row �
 matched_if dictated before now row None = Ok row
 matched_if dictated before now row (Some best) = matched_row dictated before now row best
 
--- The best remote row of a row that isn't locked: where types are dictated, a row of AMR-WB leaves those aside whose
--- type is claimed.
+-- The best remote row for an unlocked row; with dictated types, AMR-WB skips remote rows whose types are claimed.
 abbrev pub best_open : List Row → List Row → Row → Option Row
 best_open remote now row = best_row row.spec (filter (λ r. not (is_locked_type now r.pt)) remote)
 
@@ -135,7 +132,7 @@ open_best dictated remote now row =
     then unless_above (first_above remote) (best_open remote now row)
     else Ok (best_row row.spec remote)
 
--- A row that is locked keeps its types and takes what a match leaves of its settings.
+-- A locked row keeps its types and takes the negotiated settings.
 abbrev pub restated : Row → Option Row → Row
 restated row None = row
 restated row (Some best) = record row { spec = negotiated row.spec best.spec }
@@ -145,7 +142,7 @@ agreed_row dictated remote before now row =
     if row.locked then Ok (restated row (best_row row.spec remote))
     else and_then (open_best dictated remote now row) (matched_if dictated before now row)
 
--- THIRD: the rows left unlocked move away from the types of locked ones: type, RED type, RTX type.
+-- THIRD: rows left unlocked move away from types of locked rows: first the payload type, then RED, then RTX.
 abbrev pub moved_type : Role → List Row → List Row → Own → ℕ → Result ℕ RoundError
 moved_type role before now own t = and_then (tested role now none_given t) (kept_or_free before now own t)
 

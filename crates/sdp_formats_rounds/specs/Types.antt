@@ -36,7 +36,7 @@ is_locked_type rows t = list_any (λ row. row.locked && has_type row t) rows
 abbrev pub is_used : List Row → ℕ → Bool
 is_used rows t = list_any (λ row. has_type row t) rows
 
--- Whether a type is claimed: a locked row has it, or the row itself by now.
+-- Whether a type is claimed: a locked row has it, or this row was already given it.
 abbrev pub is_claimed : List Row → Own → ℕ → Bool
 is_claimed rows own t = is_locked_type rows t || is_own own t
 
@@ -48,7 +48,7 @@ preferred = 96 ∷ 97 ∷ 98 ∷ 99 ∷ 100 ∷ 101 ∷ 102 ∷ 103 ∷ 104 ∷ 
     45 ∷ 46 ∷ 47 ∷ 48 ∷ 49 ∷ 50 ∷ 51 ∷ 52 ∷ 53 ∷ 54 ∷ 55 ∷ 56 ∷ 57 ∷ 58 ∷ 59 ∷ 60 ∷ 61 ∷ 62 ∷ 63 ∷ 64 ∷ 65 ∷ 66 ∷ 67
     ∷ 68 ∷ 69 ∷ 70 ∷ 71 ∷ []
 
--- The first of them that no row has, or had as the round began, and that the row wasn't given in its turn.
+-- The first preferred type that no row has, or had when the round began, and that this row wasn't given in its turn.
 abbrev pub is_free : List Row → List Row → Own → ℕ → Bool
 is_free before now own t = not (is_used before t || is_used now t || is_own own t)
 

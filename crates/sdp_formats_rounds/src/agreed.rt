@@ -1,7 +1,7 @@
 //! The rows that meet a row of the other end.
 
 ghost use Rattle.std.specs.Prelude.{◌≡◌, OnOk, IfErr, Ok, Err};
-ghost use Rattle.payload_core_base.specs.declared.codec.Codec.TheVariants.{AmrWb};
+ghost use Rattle.media_types.specs.declared.codec.Codec.TheVariants.{AmrWb};
 ghost use Rattle.sdp_formats_rows.specs.Codecs.{is_codec};
 ghost use Rattle.sdp_formats_rounds.specs.Rounds.{fallback, agreed_type, agreed_resend, agreed_red};
 ghost use Rattle.sdp_formats_rounds.specs.Rounds.{locked_as, matched_row, best_open, first_above};
@@ -14,9 +14,10 @@ use crate::claims::{
 };
 use crate::error::RoundError;
 use crate::settings::negotiated;
-use sdp_formats_rows::{Codec, PayloadParams};
+use media_types::Codec;
+use sdp_formats_rows::PayloadParams;
 
-/// The row's own type where it is unclaimed, else a free one.
+/// The row's own payload type if it is unclaimed, otherwise a free one.
 fn fallback(
     role: Role,
     before: &[PayloadParams],
@@ -225,7 +226,7 @@ fn agreed_row(
     }
 }
 
-/// Each row in turn meets its best remote row.
+/// Each row in turn is matched with its best remote row.
 pub(crate) fn agreed_rows(
     dictated: bool,
     remote: &[PayloadParams],

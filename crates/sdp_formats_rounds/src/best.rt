@@ -6,7 +6,7 @@ ghost use Rattle.sdp_formats_rounds.specs.Best.{best_row, better, is_reached, po
 
 use sdp_formats_rows::PayloadParams;
 
-/// Whether these points are there and no fewer than the best so far.
+/// Whether there are points, and no fewer than the best so far.
 fn is_reached(best: Option<usize>, points: Option<usize>) -> bool
     ensures { result ≡ is_reached best points }
 {

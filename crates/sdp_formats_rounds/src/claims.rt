@@ -6,9 +6,10 @@ ghost use Rattle.sdp_formats_rounds.specs.Types.{preferred, is_free, free_type};
 ghost use Rattle.sdp_formats_rounds.specs.Rounds.{taken, tested, none_given, given, found};
 
 use crate::error::RoundError;
-use sdp_formats_rows::{PayloadParams, Pt};
+use rtp_wire::Pt;
+use sdp_formats_rows::PayloadParams;
 
-/// What a type is for.
+/// What a payload type is used for.
 #[derive(Clone, Copy, Drop)]
 pub(crate) enum Role {
     /// The codec, or redundancy over it.

@@ -24,7 +24,7 @@ pub struct CodecConfig {
     red_distances: Vec<u32>,
 }
 
-/// Written by hand so that crates that drop this type need no proof about its fields.
+/// Written by hand, so that crates that drop this type need no proof about its fields.
 impl Drop for CodecConfig {
     fn drop(self) {
         let CodecConfig {
@@ -43,7 +43,7 @@ impl Model for CodecConfig {
 }
 
 impl CodecConfig {
-    /// A config without rows, with the distances unset.
+    /// An empty config, distances unset.
     pub fn empty(alloc: Global) -> Self
         ensures { result ≡ record { rows = []; distances = [] } }
     {

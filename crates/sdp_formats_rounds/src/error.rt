@@ -7,11 +7,12 @@ use thiserror::Error;
 /// Why a round is refused.
 #[derive(Clone, Copy, Debug, PartialEq, Eq, Drop, Error)]
 pub enum RoundError {
-    /// A payload type is above 127, or it is claimed already. A RED type is above 127, or it is claimed already and
-    /// its row was locked before the round: another row gives a claimed one up, or takes a free one.
+    /// A payload type is above 127, or already claimed. For a RED type: it is above 127, or it is
+    /// already claimed and its row was locked before the round; other rows drop a claimed RED type,
+    /// or take a free one.
     #[error("payload type {0} is taken")]
     TypeTaken(Pt),
-    /// A type of retransmissions is above 127, or it is claimed already.
+    /// An RTX type is above 127, or already claimed.
     #[error("retransmission type {0} is taken")]
     ResendTaken(Pt),
     /// No payload type is free.

@@ -1,4 +1,4 @@
-//! Rounds of negotiation over payload rows.
+//! Rounds of negotiation over payload rows, and their laws: what a round makes of rows, and when it is refused.
 #![tactic(auto)]
 
 mod agreed;
@@ -8,6 +8,8 @@ mod config;
 mod error;
 mod match_laws;
 mod plain_laws;
+mod refusals;
+mod results;
 mod round_laws;
 mod rounds;
 mod settings;
@@ -20,14 +22,12 @@ pub use config::{CodecConfig, RemoteSection};
 pub use error::RoundError;
 pub use match_laws::best_is_best;
 pub use plain_laws::rounds_keep_widths;
+pub use refusals::{locked_types_law, round_refusals_law};
+pub use results::round_results_law;
 pub use round_laws::{
     locked_rows_keep_types, locked_types_distinct, rows_become, suggested_types_taken,
     unlocked_rows_apart,
 };
 pub use rounds::round;
-pub use rtp_wire::Direction;
-pub use sdp_formats_rows::{
-    Codec, CodecSpec, FormatParams, Frequency, MediaKind, PayloadParams, Pt,
-};
 pub use settings::negotiated;
 pub use type_laws::{all_are_apart, chosen_are_apart, types_stay_apart, types_stay_small};

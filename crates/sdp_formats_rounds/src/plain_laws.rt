@@ -1,4 +1,4 @@
-//! What rounds keep of plain rows.
+//! What rounds preserve of plain rows.
 
 ghost use Rattle.sdp_formats_rounds.specs.PlainLaws.{RoundsKeepWidths};
 

@@ -1,12 +1,12 @@
-//! What a match leaves of a row's codec settings.
+//! The settings a match negotiates for a row.
 
 ghost use Rattle.std.specs.Prelude.{◌≡◌};
-ghost use Rattle.payload_core_base.specs.declared.codec.Codec.TheVariants.{AmrWb, H265, H266, Tele};
+ghost use Rattle.media_types.specs.declared.codec.Codec.TheVariants.{AmrWb, H265, H266, Tele};
 ghost use Rattle.sdp_formats_rounds.specs.Negotiated.{negotiated, negotiated_channels, negotiated_format, with_h265};
 ghost use Rattle.sdp_formats_rounds.specs.Negotiated.{with_h266};
 
-use sdp_formats_params::{GivenH265, GivenH266, level_agreed};
-use sdp_formats_rows::{Codec, CodecSpec, FormatParams};
+use media_types::Codec;
+use sdp_formats_rows::{CodecSpec, FormatParams, GivenH265, GivenH266, level_agreed};
 
 fn with_events(ours: FormatParams, theirs: &FormatParams) -> FormatParams
     ensures { result ≡ negotiated_format Tele ours theirs.now }

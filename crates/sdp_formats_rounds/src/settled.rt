@@ -83,7 +83,7 @@ fn settled_row(
     moved_row(before, now, row)
 }
 
-/// Each row that is left unlocked moves away from the types of locked rows.
+/// Each row left unlocked moves away from types of locked rows.
 pub(crate) fn settled_rows(
     before: &[PayloadParams],
     rows: &mut [PayloadParams],

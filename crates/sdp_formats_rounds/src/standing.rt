@@ -59,7 +59,7 @@ fn standing_row(done: &[PayloadParams], row: &PayloadParams) -> Result<(), Round
     Ok(())
 }
 
-/// Whether the types of the locked rows are apart, or the first refusal.
+/// Checks that the locked rows' types are distinct; otherwise the first refusal.
 pub(crate) fn standing_rows(rows: &[PayloadParams]) -> Result<(), RoundError>
     ensures ok { OnOk result (standing_rows rows.now ≡ Ok rows.now) }
     ensures err { IfErr result (λ e. standing_rows rows.now ≡ Err e) }

@@ -4,7 +4,7 @@ ghost use Rattle.sdp_formats_rounds.specs.Chosen.{ChosenAreApart, ChosenAreAsAll
 ghost use Rattle.sdp_formats_rounds.specs.TypeLaws.{AllAreApart, RoundsKeepTypesApart, TypesStaySmall};
 ghost use Rattle.sdp_formats_rounds.specs.TypeLaws.{UnlockedAreApart, UnlockedTypesStayApart};
 
-/// A round keeps types of seven bits.
+/// A round keeps payload types below 128.
 pub fn types_stay_small()
     ensures { TypesStaySmall }
 {}

@@ -3,30 +3,30 @@ use Rattle.std.proofs.Common.{◌≤◌, ℕ, Bool, true, false, ◌&&◌, ◌==
 use Rattle.std.proofs.Common.{Option, Some, None, IfSome, nat_lt, if◌then◌else◌}
 use Rattle.std.specs.Prelude.{unwrap_or}
 use Rattle.std.proofs.lemmas.List.Sums.{count_by-le-length}
-use Rattle.named_values.specs.Tables.{place_of}
-use Rattle.h26x_payload_profiles.specs.H264LevelIdc as level_264
-use Rattle.h26x_payload_profiles.specs.declared.h264.H264LevelIdc.{H264LevelIdc}
-use Rattle.h26x_payload_profiles.specs.declared.h264.H264ProfileLevel.{H264ProfileLevel}
-use Rattle.h26x_payload_profiles.specs.H265Level as level_265
-use Rattle.h26x_payload_profiles.specs.H265Profile as profile_265
-use Rattle.h26x_payload_profiles.specs.H266Level as level_266
-use Rattle.h26x_payload_profiles.specs.H266Profile as profile_266
-use Rattle.h26x_payload_profiles.specs.declared.h265.H265Level.{H265Level}
-use Rattle.h26x_payload_profiles.specs.declared.h266.H266Level.{H266Level}
-use Rattle.h26x_payload_profiles.specs.declared.profile_tier_level.ProfileTierLevel.{ProfileTierLevel}
-use Rattle.payload_core_base.specs.declared.codec.Codec.{Codec}
-use Rattle.payload_core_base.specs.declared.codec.Codec.TheVariants.{Opus, AmrWb, H264, H265}
-use Rattle.payload_core_base.specs.declared.codec.Codec.TheVariants.{H266, Vp9, Av1, Tele}
-use Rattle.sdp_formats_params.specs.Points.{points_if, level_points}
-use Rattle.sdp_formats_params.specs.H264Score as h264
-use Rattle.sdp_formats_params.specs.LevelScore as levels
-use Rattle.sdp_formats_params.specs.declared.format.FormatParams.{FormatParams}
+use Rattle.media_types.specs.Tables.{place_of}
+use Rattle.media_types.specs.H264LevelIdc as level_264
+use Rattle.media_types.specs.declared.h264.H264LevelIdc.{H264LevelIdc}
+use Rattle.media_types.specs.declared.h264.H264ProfileLevel.{H264ProfileLevel}
+use Rattle.media_types.specs.H265Level as level_265
+use Rattle.media_types.specs.H265Profile as profile_265
+use Rattle.media_types.specs.H266Level as level_266
+use Rattle.media_types.specs.H266Profile as profile_266
+use Rattle.media_types.specs.declared.h265.H265Level.{H265Level}
+use Rattle.media_types.specs.declared.h266.H266Level.{H266Level}
+use Rattle.media_types.specs.declared.profile_tier_level.ProfileTierLevel.{ProfileTierLevel}
+use Rattle.media_types.specs.declared.codec.Codec.{Codec}
+use Rattle.media_types.specs.declared.codec.Codec.TheVariants.{Opus, AmrWb, H264, H265}
+use Rattle.media_types.specs.declared.codec.Codec.TheVariants.{H266, Vp9, Av1, Tele}
+use Rattle.sdp_formats_rows.specs.Points.{points_if, level_points}
+use Rattle.sdp_formats_rows.specs.H264Score as h264
+use Rattle.sdp_formats_rows.specs.LevelScore as levels
+use Rattle.sdp_formats_rows.specs.declared.format.FormatParams.{FormatParams}
 use Rattle.sdp_formats_rows.specs.declared.spec.CodecSpec.{CodecSpec}
 use Rattle.sdp_formats_rows.specs.Codecs.{is_codec}
-use Rattle.sdp_formats_params.specs.Same.{same, same_flag, alike, same_format}
-use Rattle.sdp_formats_params.specs.FormatScores.{penalty, opus_score, modes_score, given_264}
+use Rattle.sdp_formats_rows.specs.Same.{same, same_flag, alike, same_format}
+use Rattle.sdp_formats_rows.specs.FormatScores.{penalty, opus_score, modes_score, given_264}
 use Rattle.sdp_formats_rows.specs.Scores.{is_mono, amr_wb_score}
-use Rattle.sdp_formats_params.specs.FormatScores.{format_score}
+use Rattle.sdp_formats_rows.specs.FormatScores.{format_score}
 use Rattle.sdp_formats_rows.specs.Scores.{settings_score, codec_score, score}
 
 abbrev InRange : Option ℕ → Type 0

@@ -4,26 +4,26 @@ use Rattle.std.proofs.Common.{Option, Some, None, if◌then◌else◌}
 use Rattle.std.specs.Prelude.{unwrap_or}
 use Rattle.std.specs.Option.{option_map}
 use Rattle.std.proofs.lemmas.Grind.{common_steps}
-use Rattle.h26x_payload_profiles.specs.H265Profile as profile_265
-use Rattle.h26x_payload_profiles.specs.Tier.{tier_flag}
-use Rattle.h26x_payload_profiles.specs.H266Profile as profile_266
-use Rattle.h26x_payload_profiles.specs.declared.h264.H264ProfileLevel.{H264ProfileLevel}
-use Rattle.h26x_payload_profiles.specs.declared.profile_tier_level.ProfileTierLevel.{ProfileTierLevel}
-use Rattle.payload_core_base.specs.declared.codec.Codec.{Codec}
-use Rattle.payload_core_base.specs.declared.codec.Codec.TheVariants.{Opus, AmrWb, H264, H265}
-use Rattle.payload_core_base.specs.declared.codec.Codec.TheVariants.{H266, Vp9, Av1, Tele}
-use Rattle.sdp_formats_params.specs.Points.{points_if, distance, level_points}
-use Rattle.sdp_formats_params.specs.H264Score as h264
-use Rattle.sdp_formats_params.specs.LevelScore as levels
-use Rattle.sdp_formats_params.specs.declared.format.FormatParams.{FormatParams}
+use Rattle.media_types.specs.H265Profile as profile_265
+use Rattle.media_types.specs.Tier.{tier_flag}
+use Rattle.media_types.specs.H266Profile as profile_266
+use Rattle.media_types.specs.declared.h264.H264ProfileLevel.{H264ProfileLevel}
+use Rattle.media_types.specs.declared.profile_tier_level.ProfileTierLevel.{ProfileTierLevel}
+use Rattle.media_types.specs.declared.codec.Codec.{Codec}
+use Rattle.media_types.specs.declared.codec.Codec.TheVariants.{Opus, AmrWb, H264, H265}
+use Rattle.media_types.specs.declared.codec.Codec.TheVariants.{H266, Vp9, Av1, Tele}
+use Rattle.sdp_formats_rows.specs.Points.{points_if, distance, level_points}
+use Rattle.sdp_formats_rows.specs.H264Score as h264
+use Rattle.sdp_formats_rows.specs.LevelScore as levels
+use Rattle.sdp_formats_rows.specs.declared.format.FormatParams.{FormatParams}
 use Rattle.sdp_formats_rows.specs.declared.spec.CodecSpec.{CodecSpec}
 use Rattle.sdp_formats_rows.specs.Codecs.{codec_number, is_codec}
-use Rattle.sdp_formats_params.specs.Texts.{numbers_265, numbers_266}
-use Rattle.sdp_formats_params.specs.Same.{same, same_bool, same_flag, same_numbers, alike, same_opus, same_speech}
-use Rattle.sdp_formats_params.specs.Same.{same_h264, same_video, same_levels, same_format}
-use Rattle.sdp_formats_params.specs.FormatScores.{opus_score, modes_score, vp9_score, av1_score}
+use Rattle.sdp_formats_rows.specs.Texts.{numbers_265, numbers_266}
+use Rattle.sdp_formats_rows.specs.Same.{same, same_bool, same_flag, same_numbers, alike, same_opus, same_speech}
+use Rattle.sdp_formats_rows.specs.Same.{same_h264, same_video, same_levels, same_format}
+use Rattle.sdp_formats_rows.specs.FormatScores.{opus_score, modes_score, vp9_score, av1_score}
 use Rattle.sdp_formats_rows.specs.Scores.{is_mono, amr_wb_score}
-use Rattle.sdp_formats_params.specs.FormatScores.{given_264, format_score}
+use Rattle.sdp_formats_rows.specs.FormatScores.{given_264, format_score}
 use Rattle.sdp_formats_rows.specs.Scores.{settings_score, codec_score}
 use Rattle.sdp_formats_rows.specs.Scores.{score}
 

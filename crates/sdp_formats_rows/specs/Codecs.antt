@@ -1,14 +1,14 @@
 -- Codecs with their settings.
 use Rattle.std.specs.Prelude.{ℕ, Bool, true, ◌==◌, Option, Some, None, if◌then◌else◌}
-use Rattle.payload_core_base.specs.declared.codec.Codec.{Codec}
-use Rattle.payload_core_base.specs.declared.codec.Codec.TheVariants.{Opus, PCMU, PCMA, G722, CN, AmrWb, H264, H265}
-use Rattle.payload_core_base.specs.declared.codec.Codec.TheVariants.{H266, Vp8, Vp9, Av1, Tele, Rtx, Red, Null}
-use Rattle.payload_core_base.specs.declared.codec.Codec.TheVariants.{Unknown}
+use Rattle.media_types.specs.declared.codec.Codec.{Codec}
+use Rattle.media_types.specs.declared.codec.Codec.TheVariants.{Opus, PCMU, PCMA, G722, CN, AmrWb, H264, H265}
+use Rattle.media_types.specs.declared.codec.Codec.TheVariants.{H266, Vp8, Vp9, Av1, Tele, Rtx, Red, Null}
+use Rattle.media_types.specs.declared.codec.Codec.TheVariants.{Unknown}
 use Rattle.sdp_formats_rows.specs.declared.spec.CodecSpec.{CodecSpec}
-use Rattle.sdp_formats_params.specs.declared.format.FormatParams.{FormatParams}
-use Rattle.sdp_formats_params.specs.Formats.{no_format}
+use Rattle.sdp_formats_rows.specs.declared.format.FormatParams.{FormatParams}
+use Rattle.sdp_formats_rows.specs.Formats.{no_format}
 
--- The codecs counted.
+-- A number for each codec.
 abbrev pub codec_number : Codec → ℕ
 codec_number Opus = 0
 codec_number PCMU = 1
@@ -50,7 +50,7 @@ opus_spec = record {
   format = record no_format { min_p_time = Some 10; use_inband_fec = Some true };
 }
 
--- The clock rate of timestamps: that of the codec, but 8,000 for G.722 (RFC 3551 4.5.2).
+-- The RTP clock rate: the codec's, but 8,000 for G.722 (RFC 3551 4.5.2).
 abbrev pub rtp_clock_rate : CodecSpec → ℕ
 rtp_clock_rate spec = if is_codec spec.codec G722 then 8000 else spec.clock_rate
 

@@ -1,13 +1,13 @@
 -- The default rows of each codec: their types, clock rates, channels and formats.
 use Rattle.std.specs.Prelude.{ℕ, Bool, true, false, Option, Some, None, List, [], ◌∷◌, ◌++◌, if◌then◌else◌}
-use Rattle.payload_core_base.specs.declared.codec.Codec.{Codec}
-use Rattle.payload_core_base.specs.declared.codec.Codec.TheVariants.{PCMU, PCMA, G722, CN, AmrWb, H264, Vp8, Vp9, Av1}
-use Rattle.payload_core_base.specs.declared.codec.Codec.TheVariants.{H265, H266}
-use Rattle.h26x_payload_profiles.specs.H265ProfileTierLevel.{known_or_fallback as known_265}
-use Rattle.h26x_payload_profiles.specs.H266ProfileTierLevel.{known_or_fallback as known_266}
+use Rattle.media_types.specs.declared.codec.Codec.{Codec}
+use Rattle.media_types.specs.declared.codec.Codec.TheVariants.{PCMU, PCMA, G722, CN, AmrWb, H264, Vp8, Vp9, Av1}
+use Rattle.media_types.specs.declared.codec.Codec.TheVariants.{H265, H266}
+use Rattle.media_types.specs.H265ProfileTierLevel.{known_or_fallback as known_265}
+use Rattle.media_types.specs.H266ProfileTierLevel.{known_or_fallback as known_266}
 use Rattle.sdp_formats_rows.specs.Codecs.{spec_of, opus_spec}
-use Rattle.sdp_formats_params.specs.declared.format.FormatParams.{FormatParams}
-use Rattle.sdp_formats_params.specs.Formats.{no_format}
+use Rattle.sdp_formats_rows.specs.declared.format.FormatParams.{FormatParams}
+use Rattle.sdp_formats_rows.specs.Formats.{no_format}
 use Rattle.sdp_formats_rows.specs.Rows.{Row, new_row}
 
 -- The row with a RED type, where one is wanted (RFC 2198).
@@ -32,7 +32,7 @@ abbrev pub amr_wb_row : Row
 amr_wb_row = new_row 122 None (record (spec_of AmrWb 16000 (record no_format { octet_align = Some true }))
     { channels = Some 1 })
 
--- Video at 90,000 Hz under a type with that of its retransmissions.
+-- Video at 90,000 Hz, with a payload type and an RTX type.
 abbrev pub video_row : Codec → ℕ → ℕ → FormatParams → Row
 video_row codec pt resend format = new_row pt (Some resend) (spec_of codec 90000 format)
 
@@ -67,8 +67,8 @@ h264_rows =
     ∷ video_row H264 114 115 (h264_format true 0x64001f)
     ∷ []
 
--- H.265 and H.266 of a profile, tier and level, given by their numbers (RFC 7798 7.1, RFC 9328 7.2); where one is off
--- its table, what stands where nothing is said.
+-- H.265 and H.266 with a profile, tier and level given by numbers (RFC 7798 7.1, RFC 9328 7.2); the default, if one
+-- isn't in its table.
 abbrev pub h265_row : ℕ → Option ℕ → ℕ × ℕ × ℕ → Row
 h265_row pt resend numbers = new_row pt resend
     (spec_of H265 90000 (record no_format { h265_profile_tier_level = Some (known_265 numbers) }))

@@ -1,9 +1,9 @@
--- Which rows of a list are of a kind of media.
+-- Which rows of a list belong to a media kind.
 use Rattle.std.specs.Prelude.{Bool, not, ◌&&◌, ◌||◌, ◌==◌, List, filter}
 use Rattle.std.specs.List.{list_any}
-use Rattle.payload_core_base.specs.Codecs.{is_audio_codec, is_tele_codec, is_video_codec}
-use Rattle.payload_core_base.specs.declared.codec.MediaKind.{MediaKind}
-use Rattle.payload_core_base.specs.declared.codec.MediaKind.TheVariants.{Audio, Video}
+use Rattle.media_types.specs.Codecs.{is_audio_codec, is_tele_codec, is_video_codec}
+use Rattle.media_types.specs.declared.codec.MediaKind.{MediaKind}
+use Rattle.media_types.specs.declared.codec.MediaKind.TheVariants.{Audio, Video}
 use Rattle.sdp_formats_rows.specs.Codecs.{rtp_clock_rate}
 use Rattle.sdp_formats_rows.specs.Rows.{Row}
 
@@ -16,8 +16,8 @@ matches_clock rows events =
 abbrev pub has_events : List Row → Bool
 has_events rows = list_any (λ row. is_tele_codec row.spec.codec && matches_clock rows row) rows
 
--- Whether a row counts for a kind. In a new offer telephone events count at the clock rate of an audio row, if there
--- are such ones.
+-- Whether a row belongs to a media kind. In a new offer, if some telephone events have the clock rate of an audio row,
+-- only those do.
 unfoldable pub is_of_kind : MediaKind → Bool → List Row → Row → Bool
 is_of_kind Video for_new_offer rows row = is_video_codec row.spec.codec
 is_of_kind Audio for_new_offer rows row =

@@ -1,6 +1,6 @@
 -- Rows without those of a codec.
 use Rattle.std.specs.Prelude.{not, List, filter}
-use Rattle.payload_core_base.specs.declared.codec.Codec.{Codec}
+use Rattle.media_types.specs.declared.codec.Codec.{Codec}
 use Rattle.sdp_formats_rows.specs.Codecs.{is_codec}
 use Rattle.sdp_formats_rows.specs.Rows.{Row}
 

@@ -1,10 +1,10 @@
 -- Rows: a payload type with its codec and feedback.
 use Rattle.std.specs.Prelude.{ℕ, Bool, true, false, Option, None}
-use Rattle.payload_core_base.specs.Codecs.{is_video_codec}
+use Rattle.media_types.specs.Codecs.{is_video_codec}
 use Rattle.sdp_formats_rows.specs.declared.spec.CodecSpec.{CodecSpec}
 
--- A row: its type, the type of its retransmissions (RFC 4588), its codec, which feedback it uses, its RED type (RFC
--- 2198), and whether an exchange has settled it.
+-- A row: its payload type, RTX type (RFC 4588), codec, feedback, RED type (RFC 2198), and whether an exchange has
+-- locked it.
 pub record Row : Type 0 where
   pub pt : ℕ
   pub resend : Option ℕ
@@ -17,7 +17,7 @@ pub record Row : Type 0 where
   pub red : Option ℕ
   pub locked : Bool
 
--- A fresh row: transport-wide feedback for all, the other feedback for video, no RED type, not locked.
+-- A new row: transport-wide feedback on, the other feedback on for video only, no RED type, unlocked.
 abbrev pub new_row : ℕ → Option ℕ → CodecSpec → Row
 new_row pt resend spec = record {
   pt = pt;

@@ -4,7 +4,7 @@ ghost use Rattle.std.specs.Prelude.{◌≡◌, IfOk};
 ghost use Rattle.sdp_formats_rows.specs.Kinds.{has_events, is_of_kind, matches_clock, rows_of_kind};
 
 use crate::row::PayloadParams;
-use payload_core_base::MediaKind;
+use media_types::MediaKind;
 use std::alloc::{AllocError, Global};
 
 /// Whether an audio row has the clock rate of these telephone events.

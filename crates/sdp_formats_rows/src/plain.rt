@@ -6,11 +6,12 @@ ghost use Rattle.sdp_formats_rows.specs.Plain.{comes_back, events_alone, has_pla
 ghost use Rattle.sdp_formats_rows.specs.Plain.{has_plain_level, has_plain_others, has_plain_red, has_plain_types};
 ghost use Rattle.sdp_formats_rows.specs.Plain.{is_media_codec, is_plain, is_plain_codec, is_plain_rate, is_type};
 
+use crate::format::FormatParams;
 use crate::row::PayloadParams;
+use crate::same::{same_byte, same_format};
 use crate::spec::CodecSpec;
-use payload_core_base::Codec;
+use media_types::Codec;
 use rtp_wire::Pt;
-use sdp_formats_params::{FormatParams, same_byte, same_format};
 use std::alloc::{AllocError, Global};
 
 /// Is it a type of seven bits, if it is given?
@@ -52,7 +53,7 @@ fn is_plain_rate(spec: &CodecSpec) -> bool
         || (spec.clock_rate.get() == 16_000 && !same_byte(spec.channels, Some(1)))
 }
 
-/// Is it a codec of media, at a clock rate that a line can say?
+/// Is it media, at a clock rate that SDP can express?
 fn is_plain_codec(spec: &CodecSpec) -> bool
     ensures { result ≡ is_plain_codec spec.now }
 {
@@ -98,7 +99,7 @@ fn has_plain_events(spec: &CodecSpec) -> bool
     spec.format.telephone_event_max.is_none()
 }
 
-/// Does a profile, tier and level stand under its own codec alone?
+/// Is a profile, tier and level given only for its own codec?
 fn has_plain_level(spec: &CodecSpec) -> bool
     ensures { result ≡ has_plain_level spec.now }
 {
@@ -114,7 +115,7 @@ fn comes_back(alloc: Global, format: &FormatParams) -> Result<bool, AllocError>
     Ok(same_format(&FormatParams::parse_line(text.as_str()), format))
 }
 
-/// Has it all that a plain row has beside its format?
+/// Does it meet all conditions for a plain row apart from its format?
 fn has_plain_others(row: &PayloadParams) -> bool
     ensures { result ≡ has_plain_others row.now }
 {

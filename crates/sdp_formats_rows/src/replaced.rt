@@ -5,7 +5,7 @@ ghost use Rattle.sdp_formats_rows.specs.Codecs.{is_codec};
 ghost use Rattle.sdp_formats_rows.specs.Replaced.{rows_without};
 
 use crate::row::PayloadParams;
-use payload_core_base::Codec;
+use media_types::Codec;
 use std::alloc::AllocError;
 
 fn is_same_codec(codec: Codec, other: Codec) -> bool

@@ -262,7 +262,7 @@ impl PayloadParams {
         self.feedback.remb = fb_remb;
     }
 
-    /// Whether an exchange has settled the row.
+    /// Whether an exchange has locked the row.
     pub fn is_locked(&self) -> bool
         ensures { result ≡ self.now.locked }
     {

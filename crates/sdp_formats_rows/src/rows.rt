@@ -1,21 +1,20 @@
 //! The default rows of each codec.
 
 ghost use Rattle.std.specs.Prelude.{◌≡◌, None};
-ghost use Rattle.payload_core_base.specs.declared.codec.Codec.TheVariants.{H264};
+ghost use Rattle.media_types.specs.declared.codec.Codec.TheVariants.{H264};
 ghost use Rattle.sdp_formats_rows.specs.DefaultRows.{with_red_if, opus_row, pcmu_row, pcma_row, g722_row};
 ghost use Rattle.sdp_formats_rows.specs.DefaultRows.{comfort_noise_row, amr_wb_row, video_row, vp8_row};
 ghost use Rattle.sdp_formats_rows.specs.DefaultRows.{vp9_row, vp9_rows, av1_row, h264_format, h264_rows};
 ghost use Rattle.sdp_formats_rows.specs.DefaultRows.{h265_row, h266_row, h265_default, h266_default};
 ghost use Rattle.sdp_formats_rows.specs.Codecs.{spec_of};
 ghost use Rattle.sdp_formats_rows.specs.Rows.{new_row};
-ghost use Rattle.sdp_formats_params.specs.Formats.{no_format};
+ghost use Rattle.sdp_formats_rows.specs.Formats.{no_format};
 
+use crate::format::FormatParams;
 use crate::row::PayloadParams;
 use crate::spec::CodecSpec;
-use h26x_payload_profiles::{H265ProfileTierLevel, H266ProfileTierLevel};
-use payload_core_base::Codec;
+use media_types::{Codec, H265ProfileTierLevel, H266ProfileTierLevel};
 use rtp_wire::{Frequency, Pt};
-use sdp_formats_params::FormatParams;
 
 fn no_format() -> FormatParams
     ensures { result ≡ no_format }

@@ -5,9 +5,10 @@ ghost use Rattle.sdp_formats_rows.specs.Codecs.{is_codec};
 ghost use Rattle.sdp_formats_rows.specs.Laws.{ScoreSymmetric, ScoresInRange};
 ghost use Rattle.sdp_formats_rows.specs.Scores.{amr_wb_score, codec_score, is_mono, score, settings_score};
 
+use crate::format_scores::{format_score, modes_score};
+use crate::same::{alike, same_byte, same_format};
 use crate::spec::CodecSpec;
-use payload_core_base::Codec;
-use sdp_formats_params::{alike, format_score, modes_score, same_byte, same_format};
+use media_types::Codec;
 
 /// Is it one channel, given or not?
 fn is_mono(spec: &CodecSpec) -> bool

@@ -1,8 +1,8 @@
 //! Codecs with their settings.
 
-use payload_core_base::Codec;
+use crate::format::FormatParams;
+use media_types::Codec;
 use rtp_wire::{Frequency, Pt};
-use sdp_formats_params::FormatParams;
 
 /// A codec with its clock rate, channels and format (RFC 8866 6.6 and 6.15).
 #[derive(Clone, Copy, Debug, PartialEq, Eq, Drop)]

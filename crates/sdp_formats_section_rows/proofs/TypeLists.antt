@@ -5,7 +5,7 @@ use Rattle.std.specs.Prelude.{fold}
 use Rattle.std.proofs.Math.Bool.{and-false, and-true, or-false, or_assoc}
 use Rattle.std.proofs.lemmas.Bool.{eqb-true}
 use Rattle.std.proofs.lemmas.List.Folds.{list_any-append}
-use Rattle.payload_core_base.specs.declared.codec.Codec.{Codec}
+use Rattle.media_types.specs.declared.codec.Codec.{Codec}
 use Rattle.sdp_formats_rows.specs.Codecs.{is_codec}
 use Rattle.sdp_formats_section_rows.specs.Mapped.{is_mapped_to}
 use Rattle.sdp_formats_section_rows.specs.TypeLists.{is_listed, types_to, with_type}

@@ -2,13 +2,13 @@
 use Rattle.std.specs.Prelude.{ℕ, Bool, List, [], ◌∷◌, ◌++◌, codes, Option, Some, None, unwrap_or}
 use Rattle.std.specs.Prelude.{if◌then◌else◌}
 use Rattle.std.specs.List.{flat_map}
-use Rattle.payload_core_base.specs.Codecs.{is_tele_codec}
-use Rattle.payload_core_base.specs.declared.codec.Codec.TheVariants as codec
+use Rattle.media_types.specs.Codecs.{is_tele_codec}
+use Rattle.media_types.specs.declared.codec.Codec.TheVariants as codec
 use Rattle.sdp_formats_values.specs.declared.param.FormatParam.{FormatParam}
 use Rattle.sdp_formats_values.specs.declared.param.FormatParam.TheVariants as param
 use Rattle.sdp_formats_rows.specs.Codecs.{rtp_clock_rate}
 use Rattle.sdp_formats_rows.specs.Rows.{Row}
-use Rattle.sdp_formats_params.specs.Parameters.{params_of}
+use Rattle.sdp_formats_rows.specs.Parameters.{params_of}
 use Rattle.sdp_formats_rows.specs.declared.spec.CodecSpec.{CodecSpec}
 use Rattle.sdp_formats_data.specs.declared.media.MediaAttribute.{MediaAttribute}
 use Rattle.sdp_formats_data.specs.declared.media.MediaAttribute.TheVariants as attribute
@@ -17,7 +17,7 @@ use Rattle.sdp_formats_section_rows.specs.Maps.{map_of}
 use Rattle.sdp_formats_section_rows.specs.declared.feedback.Feedback.{Feedback}
 use Rattle.sdp_formats_section_rows.specs.declared.feedback.Feedback.TheVariants as feedback
 
--- Telephone events: their range alone, up to 16 where none is given (RFC 4733 2.4.1 has 15).
+-- Telephone events: only their range, by default up to 16 (RFC 4733 2.4.1 says 15).
 abbrev pub params_in : CodecSpec → List FormatParam
 params_in spec =
     if is_tele_codec spec.codec then param.TelephoneEvents (unwrap_or spec.format.telephone_event_max 16) ∷ []
@@ -52,7 +52,7 @@ feedback_line row f = if is_used row f then attribute.RtcpFb row.pt (words_of f)
 abbrev pub feedback_lines : Row → List MediaAttribute
 feedback_lines row = flat_map (feedback_line row) all_feedback
 
--- A type of retransmissions, and one of redundant audio, with the type that it is of (RFC 4588 8.6, RFC 2198 5).
+-- The lines of an RTX type, or of a RED type, with the payload type it belongs to (RFC 4588 8.6, RFC 2198 5).
 abbrev pub link_lines : ℕ → RtpMap → FormatParam → List MediaAttribute
 link_lines pt value p = attribute.RtpMap pt value ∷ attribute.Fmtp pt (p ∷ []) ∷ []
 
@@ -68,7 +68,7 @@ red_lines row (Some pt) =
     link_lines pt (record { codec = codec.Red; clock_rate = rtp_clock_rate row.spec; channels = row.spec.channels })
     (param.Red row.pt)
 
--- The attributes of a row: its type, feedback and format, then its type of retransmissions, then its RED type.
+-- The attributes of a row: its payload type, feedback and format, then its RTX type, then its RED type.
 abbrev pub attributes_of : Row → List MediaAttribute
 attributes_of row =
     (attribute.RtpMap row.pt (map_of row.spec) ∷ []) ++ feedback_lines row ++ fmtp_of row.pt (params_in row.spec)

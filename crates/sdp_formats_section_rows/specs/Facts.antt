@@ -1,13 +1,13 @@
--- What a section says of a payload type, whatever the type is mapped to, and the row of a mapping by it.
+-- What a section says of a payload type, whatever its codec; and the row that results for a codec.
 use Rattle.std.specs.Prelude.{◌≡◌, ℕ, Bool, false, ◌&&◌, ◌||◌, ◌==◌, List, fold, codes, Option, Some, None}
 use Rattle.std.specs.Prelude.{if◌then◌else◌}
 use Rattle.std.specs.List.{list_any, find}
 use Rattle.std.specs.Option.{option_map}
-use Rattle.payload_core_base.specs.Codecs.{is_audio_codec, is_tele_codec, is_video_codec}
-use Rattle.payload_core_base.specs.declared.codec.Codec.{Codec}
-use Rattle.payload_core_base.specs.declared.codec.Codec.TheVariants.{AmrWb, Red, Rtx}
-use Rattle.sdp_formats_params.specs.Formats.{no_format}
-use Rattle.sdp_formats_params.specs.declared.format.FormatParams.{FormatParams}
+use Rattle.media_types.specs.Codecs.{is_audio_codec, is_tele_codec, is_video_codec}
+use Rattle.media_types.specs.declared.codec.Codec.{Codec}
+use Rattle.media_types.specs.declared.codec.Codec.TheVariants.{AmrWb, Red, Rtx}
+use Rattle.sdp_formats_rows.specs.Formats.{no_format}
+use Rattle.sdp_formats_rows.specs.declared.format.FormatParams.{FormatParams}
 use Rattle.sdp_formats_rows.specs.Codecs.{is_codec}
 use Rattle.sdp_formats_rows.specs.Rows.{Row}
 use Rattle.sdp_formats_data.specs.declared.media.MediaAttribute.{MediaAttribute}
@@ -21,7 +21,7 @@ use Rattle.sdp_formats_section_rows.specs.declared.facts.TypeFacts.{TypeFacts}
 use Rattle.sdp_formats_section_rows.specs.declared.given.Events.TheVariants as events
 use Rattle.sdp_formats_section_rows.specs.declared.mapped.Mapping.{Mapping}
 
--- The type of retransmissions or of redundant audio of a type, by the list of the types in that role.
+-- The RTX or RED type of a payload type, given the list of types in that role.
 unfoldable pub linked_by : Codec → List ℕ → ℕ → Option ℕ → MediaAttribute → Option ℕ
 linked_by role types pt found (Fmtp by values) =
     if list_any (names role pt) values && is_listed types by then Some by else found
@@ -59,7 +59,7 @@ facts_of pts attrs resend_types red_types pt =
 abbrev pub find_facts : List TypeFacts → ℕ → Option TypeFacts
 find_facts kept pt = find (λ facts. facts.pt == pt) kept
 
--- Whatever is found of a type is what the section says of it.
+-- Whatever is stored for a payload type is what the section says of it.
 abbrev pub AreKept : (ℕ → TypeFacts) → List TypeFacts → Type 0
 AreKept facts kept = (pt : ℕ) (f : TypeFacts) → find_facts kept pt ≡ Some f → f ≡ facts pt
 

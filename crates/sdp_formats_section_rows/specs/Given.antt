@@ -3,16 +3,16 @@ use Rattle.std.specs.Prelude.{ℕ, Bool, true, false, ◌&&◌, ◌==◌, List, 
 use Rattle.std.specs.Prelude.{if◌then◌else◌}
 use Rattle.std.specs.List.{list_any}
 use Rattle.std.specs.Option.{option_map}
-use Rattle.payload_core_base.specs.Codecs.{is_tele_codec}
-use Rattle.payload_core_base.specs.declared.codec.Codec.{Codec}
-use Rattle.payload_core_base.specs.declared.codec.Codec.TheVariants.{AmrWb}
+use Rattle.media_types.specs.Codecs.{is_tele_codec}
+use Rattle.media_types.specs.declared.codec.Codec.{Codec}
+use Rattle.media_types.specs.declared.codec.Codec.TheVariants.{AmrWb}
 use Rattle.sdp_formats_values.specs.declared.param.FormatParam.{FormatParam}
 use Rattle.sdp_formats_values.specs.declared.param.FormatParam.TheVariants.{TelephoneEvents, BareRange}
 use Rattle.sdp_formats_values.specs.declared.param.FormatParam.TheVariants.{AmrWbUnsupported}
 use Rattle.sdp_formats_rows.specs.Codecs.{is_codec}
-use Rattle.sdp_formats_params.specs.Formats.{no_format}
-use Rattle.sdp_formats_params.specs.OneParam.{with_codec_param}
-use Rattle.sdp_formats_params.specs.declared.format.FormatParams.{FormatParams}
+use Rattle.sdp_formats_rows.specs.Formats.{no_format}
+use Rattle.sdp_formats_rows.specs.OneParam.{with_codec_param}
+use Rattle.sdp_formats_rows.specs.declared.format.FormatParams.{FormatParams}
 use Rattle.sdp_formats_data.specs.declared.media.MediaAttribute.{MediaAttribute}
 use Rattle.sdp_formats_data.specs.declared.media.MediaAttribute.TheVariants.{Fmtp}
 use Rattle.sdp_formats_section_rows.specs.declared.given.Events.{Events}
@@ -26,7 +26,7 @@ values_for pt _ = []
 unfoldable pub with_attribute : ℕ → FormatParams → MediaAttribute → FormatParams
 with_attribute pt f a = fold with_codec_param f (values_for pt a)
 
--- What AMR-WB isn't supported with (RFC 4867 8.2).
+-- AMR-WB features that aren't supported (RFC 4867 8.2).
 abbrev pub is_unsupported : FormatParam → Bool
 is_unsupported AmrWbUnsupported = true
 is_unsupported _ = false
@@ -34,7 +34,7 @@ is_unsupported _ = false
 unfoldable pub is_declined : ℕ → MediaAttribute → Bool
 is_declined pt a = list_any is_unsupported (values_for pt a)
 
--- Telephone events: one line of a bare range `0-X`, or none, which is up to 16 (RFC 4733 2.4.1 has 15).
+-- Telephone events: a single bare range `0-X`, or no line, which means up to 16 (RFC 4733 2.4.1 says 15).
 abbrev pub events_in : List FormatParam → Option ℕ
 events_in (BareRange most ∷ []) = Some most
 events_in (TelephoneEvents most ∷ []) = Some most
@@ -56,7 +56,7 @@ most_of events.Declined = None
 abbrev pub with_events : ℕ → FormatParams
 with_events most = record no_format { telephone_event_max = Some most }
 
--- The format of a codec under a payload type, none where it is declined.
+-- The format of a codec with a payload type; None if it is declined.
 abbrev pub format_given : Codec → ℕ → List MediaAttribute → Option FormatParams
 format_given codec pt attrs =
     if is_tele_codec codec then option_map with_events (most_of (fold (events_after pt) events.Default attrs))

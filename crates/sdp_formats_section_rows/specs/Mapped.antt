@@ -2,7 +2,7 @@
 use Rattle.std.specs.Prelude.{ℕ, Bool, ◌==◌, ◌&&◌, List, [], ◌∷◌, ◌++◌, fold, Option, Some, None}
 use Rattle.std.specs.Prelude.{if◌then◌else◌}
 use Rattle.std.specs.List.{list_any, flat_map}
-use Rattle.payload_core_base.specs.declared.codec.Codec.{Codec}
+use Rattle.media_types.specs.declared.codec.Codec.{Codec}
 use Rattle.sdp_formats_rows.specs.Codecs.{is_codec, static_spec}
 use Rattle.sdp_formats_section_rows.specs.Maps.{map_of}
 use Rattle.sdp_formats_rows.specs.declared.spec.CodecSpec.{CodecSpec}

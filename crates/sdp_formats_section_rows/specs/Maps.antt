@@ -1,8 +1,8 @@
 -- What `a=rtpmap` says of a codec, and the codec that it means (RFC 8866 6.6).
 use Rattle.std.specs.Prelude.{ℕ, ◌==◌, Option, Some, None, if◌then◌else◌}
-use Rattle.payload_core_base.specs.declared.codec.Codec.TheVariants.{G722}
+use Rattle.media_types.specs.declared.codec.Codec.TheVariants.{G722}
 use Rattle.sdp_formats_rows.specs.Codecs.{is_codec, rtp_clock_rate}
-use Rattle.sdp_formats_params.specs.declared.format.FormatParams.{FormatParams}
+use Rattle.sdp_formats_rows.specs.declared.format.FormatParams.{FormatParams}
 use Rattle.sdp_formats_rows.specs.declared.spec.CodecSpec.{CodecSpec}
 use Rattle.sdp_formats_data.specs.declared.media.RtpMap.{RtpMap}
 

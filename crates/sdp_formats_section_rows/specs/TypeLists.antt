@@ -2,7 +2,7 @@
 use Rattle.std.specs.Prelude.{◌≡◌, ℕ, Bool, true, ◌==◌, List, [], ◌∷◌, ◌++◌, fold}
 use Rattle.std.specs.Prelude.{if◌then◌else◌}
 use Rattle.std.specs.List.{list_any}
-use Rattle.payload_core_base.specs.declared.codec.Codec.{Codec}
+use Rattle.media_types.specs.declared.codec.Codec.{Codec}
 use Rattle.sdp_formats_rows.specs.Codecs.{is_codec}
 use Rattle.sdp_formats_section_rows.specs.Mapped.{is_mapped}
 use Rattle.sdp_formats_section_rows.specs.declared.mapped.Mapping.{Mapping}

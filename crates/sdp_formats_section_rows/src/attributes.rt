@@ -7,9 +7,12 @@ ghost use Rattle.sdp_formats_section_rows.specs.Attributes.{resend_lines};
 use crate::feedback::push_feedback;
 use crate::maps::ToRtpMap;
 use crate::params::params_in;
+use media_types::Codec;
 use rtp_wire::Pt;
-use sdp_formats_data::{FormatParam, Listed, MediaAttribute, RtpMap};
-use sdp_formats_rows::{Codec, PayloadParams};
+use sdp_formats_data::{MediaAttribute, RtpMap};
+use sdp_formats_grammar::Listed;
+use sdp_formats_rows::PayloadParams;
+use sdp_formats_values::FormatParam;
 use std::alloc::{AllocError, Global};
 
 #[tactic(auto, unfolding(crate::specs::Attributes::fmtp_of))]

@@ -8,9 +8,10 @@ ghost use Rattle.sdp_formats_section_rows.specs.SectionRows.{has_feedback, is_fe
 use crate::given::{any_declined, events_given, most_of, with_attributes};
 use crate::links::linked;
 use crate::type_lists::is_listed;
+use media_types::Codec;
 use rtp_wire::Pt;
 use sdp_formats_data::{MediaAttribute, MediaLine};
-use sdp_formats_rows::{Codec, FormatParams};
+use sdp_formats_rows::FormatParams;
 
 /// Which feedback a section gives for a payload type (RFC 4585 4.2, RFC 5104 7.1).
 #[derive(Drop)]

@@ -5,7 +5,8 @@ ghost use Rattle.std.specs.Array.Iter.{array_into_iter_items};
 ghost use Rattle.sdp_formats_section_rows.specs.Attributes.{all_feedback, feedback_line, feedback_lines, is_used};
 ghost use Rattle.sdp_formats_section_rows.specs.Attributes.{words_of};
 
-use sdp_formats_data::{MediaAttribute, Text};
+use sdp_formats_data::MediaAttribute;
+use sdp_formats_grammar::Text;
 use sdp_formats_rows::PayloadParams;
 use std::alloc::{AllocError, Global};
 use std::array;

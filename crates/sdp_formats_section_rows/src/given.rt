@@ -1,18 +1,20 @@
 //! The format that a section's parameters give a payload type.
 
 ghost use Rattle.std.specs.Prelude.{◌≡◌, fold};
-ghost use Rattle.payload_core_base.specs.declared.codec.Codec.TheVariants.{AmrWb};
+ghost use Rattle.media_types.specs.declared.codec.Codec.TheVariants.{AmrWb};
 ghost use Rattle.std.specs.List.{list_any};
 ghost use Rattle.sdp_formats_rows.specs.Codecs.{is_codec};
 ghost use Rattle.sdp_formats_section_rows.specs.Given.{events_after, events_in, format_given, is_declined};
 ghost use Rattle.sdp_formats_section_rows.specs.Given.{is_unsupported, most_of, with_attribute, with_events};
 ghost use Rattle.sdp_formats_section_rows.specs.Given.{with_line};
-ghost use Rattle.sdp_formats_params.specs.OneParam.{with_codec_param};
+ghost use Rattle.sdp_formats_rows.specs.OneParam.{with_codec_param};
 ghost use Rattle.sdp_formats_section_rows.specs.declared.given.Events.TheVariants.{Default};
 
+use media_types::Codec;
 use rtp_wire::Pt;
-use sdp_formats_data::{FormatParam, MediaAttribute};
-use sdp_formats_rows::{Codec, FormatParams};
+use sdp_formats_data::MediaAttribute;
+use sdp_formats_rows::FormatParams;
+use sdp_formats_values::FormatParam;
 
 /// What the lines of a payload type give of telephone events (RFC 4733 2.4.1).
 #[derive(Clone, Copy, Drop)]
@@ -168,8 +170,9 @@ pub fn is_amr_wb(codec: Codec) -> bool
 
 /// Formats by the lines of a section.
 pub trait FromSdpFmtp: Sized {
-    /// The format that a section's attributes give a codec under a payload type; None where it is declined: telephone
-    /// events with another line than one range `0-X`, AMR-WB with what isn't supported (RFC 4733 2.4.1, RFC 4867 8.2).
+    /// The format that a section's attributes give a codec with a payload type; None if it is
+    /// declined: telephone events with any line other than a single range `0-X`, or AMR-WB with an
+    /// unsupported feature (RFC 4733 2.4.1, RFC 4867 8.2).
     fn from_sdp_fmtp(codec: Codec, pt: Pt, attributes: &[MediaAttribute]) -> Option<Self>;
 }
 

@@ -18,6 +18,4 @@ pub use given::{
     with_events,
 };
 pub use maps::{ToCodecSpec, ToRtpMap};
-pub use sdp_formats_data::{MediaAttribute, MediaLine, RtpMap};
-pub use sdp_formats_rows::{CodecSpec, FormatParams, PayloadParams};
 pub use section_rows::RtpParams;

@@ -6,9 +6,10 @@ ghost use Rattle.sdp_formats_section_rows.specs.Facts.{linked_by, linked_in};
 ghost use Rattle.sdp_formats_section_rows.specs.SectionRows.{names};
 
 use crate::type_lists::is_listed;
+use media_types::Codec;
 use rtp_wire::Pt;
-use sdp_formats_data::{FormatParam, MediaAttribute};
-use sdp_formats_rows::Codec;
+use sdp_formats_data::MediaAttribute;
+use sdp_formats_values::FormatParam;
 
 fn names(role: Codec, pt: Pt, param: &FormatParam) -> bool
     ensures { result ≡ names role pt param.now }

@@ -9,9 +9,10 @@ ghost use Rattle.sdp_formats_section_rows.specs.TypeLists.{AreMapped};
 
 use crate::maps::ToRtpMap;
 use crate::type_lists::is_listed;
+use media_types::Codec;
 use rtp_wire::Pt;
 use sdp_formats_data::{MediaAttribute, RtpMap};
-use sdp_formats_rows::{Codec, CodecSpec};
+use sdp_formats_rows::CodecSpec;
 use std::alloc::{AllocError, Global};
 
 /// A payload type and what it is mapped to.
@@ -77,7 +78,8 @@ fn push_unless_mapped(
     Ok(())
 }
 
-/// The same for a listed type, where it is a static one. A list may repeat it, so it is looked for but once.
+/// The same for a listed type, if it is static. A list may repeat it, but it is looked up only
+/// once.
 #[tactic(auto, unfolding(crate::specs::Mapped::with_static))]
 fn push_static(mappings: &mut Vec<Mapping>, met: &mut Vec<Pt>, pt: Pt) -> Result<(), AllocError>
     requires { AreMapped mappings.old.items met.old.items }

@@ -3,9 +3,10 @@
 ghost use Rattle.std.specs.Prelude.{◌≡◌};
 ghost use Rattle.sdp_formats_section_rows.specs.Maps.{map_of, spec_of_map, unless_one};
 
+use media_types::Codec;
 use rtp_wire::Frequency;
 use sdp_formats_data::RtpMap;
-use sdp_formats_rows::{Codec, CodecSpec, FormatParams};
+use sdp_formats_rows::{CodecSpec, FormatParams};
 
 fn unless_one(channels: Option<u8>) -> Option<u8>
     ensures { result ≡ unless_one channels }

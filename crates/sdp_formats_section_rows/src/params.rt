@@ -3,8 +3,8 @@
 ghost use Rattle.std.specs.Prelude.{◌≡◌, IfOk};
 ghost use Rattle.sdp_formats_section_rows.specs.Attributes.{params_in};
 
-use sdp_formats_data::FormatParam;
 use sdp_formats_rows::CodecSpec;
+use sdp_formats_values::FormatParam;
 use std::alloc::{AllocError, Global};
 
 /// The parameters of a codec: those of its format, or the range of telephone events, up to 16 where none is given

@@ -3,7 +3,7 @@
 ghost use Rattle.std.specs.Prelude.{◌≡◌, ◌++◌, None, IfOk, OnOk};
 ghost use Rattle.std.specs.List.{flat_map};
 ghost use Rattle.std.specs.Prelude.{if◌then◌else◌};
-ghost use Rattle.payload_core_base.specs.Codecs.{is_audio_codec};
+ghost use Rattle.media_types.specs.Codecs.{is_audio_codec};
 ghost use Rattle.sdp_formats_section_rows.specs.Facts.{AreKept, facts_of, format_by, has_row_by};
 ghost use Rattle.sdp_formats_section_rows.specs.Facts.{row_by, row_with, rows_by};
 ghost use Rattle.sdp_formats_section_rows.specs.SectionRows.{listed, rows_given, rows_of};
@@ -13,9 +13,10 @@ use crate::given::{is_amr_wb, with_events};
 use crate::mapped::{Mapping, mappings};
 use crate::maps::ToCodecSpec;
 use crate::type_lists::types_mapped_to;
+use media_types::Codec;
 use rtp_wire::Pt;
 use sdp_formats_data::MediaLine;
-use sdp_formats_rows::{Codec, FormatParams, PayloadParams, is_media_codec};
+use sdp_formats_rows::{FormatParams, PayloadParams, is_media_codec};
 use std::alloc::{AllocError, Global};
 
 fn format_by(codec: Codec, facts: &TypeFacts) -> Option<FormatParams>

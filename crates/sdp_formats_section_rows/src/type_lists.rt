@@ -4,8 +4,8 @@ ghost use Rattle.std.specs.Prelude.{◌≡◌, IfOk, OnOk};
 ghost use Rattle.sdp_formats_section_rows.specs.TypeLists.{is_listed, types_to, with_type};
 
 use crate::mapped::{Mapping, is_codec};
+use media_types::Codec;
 use rtp_wire::Pt;
-use sdp_formats_rows::Codec;
 use std::alloc::{AllocError, Global};
 
 /// Whether a list has this type.

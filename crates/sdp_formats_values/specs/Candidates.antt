@@ -52,7 +52,7 @@ tcptype_field t = do
   tcptype ← maybe tcptype_word word.0
   Some (tcptype, word.1)
 
--- The name of the credentials, among fields that are passed over, up to the end.
+-- The ufrag, among fields that are ignored, up to the end.
 unfoldable pub ufrag_field : Option (List ℕ) → Option (Option (List ℕ))
 ufrag_field t = do
   generation ← field (codes "generation ") t
@@ -61,7 +61,7 @@ ufrag_field t = do
   cost ← field (codes "network-cost ") ufrag.1
   ended ufrag.0 cost.1
 
--- The fields behind the kind, each behind its name, in this order, each there or not.
+-- The optional fields after the kind, each after its name, in this order.
 unfoldable pub candidate_fields : Option (List ℕ) → Option Fields
 candidate_fields t = do
   related ← related_field t

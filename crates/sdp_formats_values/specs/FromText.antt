@@ -1,4 +1,4 @@
--- Fingerprints out of texts, with bytes as Rust reads numbers in base 16.
+-- Fingerprints read from texts, with bytes read as Rust reads hexadecimal numbers.
 use Rattle.std.specs.Prelude.{◌≡◌, ℕ, ◌^◌, Bool, true, ◌&&◌, List, [], ◌∷◌, length, nat_lt, Option, Some, None}
 use Rattle.std.specs.Prelude.{Result, Ok, Err, if◌then◌else◌, codes}
 use Rattle.std.specs.Char.{digit_value}
@@ -14,7 +14,7 @@ abbrev pub all_hex : List ℕ → Bool
 all_hex [] = true
 all_hex (c ∷ cs) = nat_lt (digit_value c) 16 && all_hex cs
 
--- The number below 256 that hexadecimal digits write, one or more of them, a plus before them or not.
+-- The value of one or more hexadecimal digits, with an optional leading plus, if it is below 256.
 abbrev pub hex_number : List ℕ → Option ℕ
 hex_number text =
     if nat_lt 0 (length (without_leading_plus text)) && all_hex (without_leading_plus text)
@@ -22,11 +22,11 @@ hex_number text =
     then Some (digits_value 16 (without_leading_plus text))
     else None
 
--- A name, which may be empty, up to the first blank, and numbers with colons between.
+-- A name (maybe empty) up to the first blank, then numbers separated by colons.
 abbrev pub print_in_text : Form Fingerprint
 print_in_text = made make_fingerprint (cut 32 (told Some) (separated 58 (told hex_number)))
 
--- A text gives what it says, and is malformed exactly where it says nothing.
+-- A text gives the fingerprint it says, and Malformed if and only if it says none.
 abbrev pub IsFromText : Result Fingerprint FingerprintError → Option Fingerprint → Type 0
 IsFromText (Ok print) said = said ≡ Some print
 IsFromText (Err Malformed) said = said ≡ None

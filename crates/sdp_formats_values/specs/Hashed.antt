@@ -1,4 +1,4 @@
--- How the keys of one line are hashed.
+-- How a line's keys are hashed.
 use Rattle.std.specs.Prelude.{List, fold}
 use Rattle.std.specs.Hash.DefaultHasher.{initial, write}
 use Rattle.std.specs.declared.hash.DefaultHasher.{DefaultHasher}

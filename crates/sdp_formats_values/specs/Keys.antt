@@ -42,7 +42,7 @@ is_name_of key text = str_eq_ignore_ascii_case (key_name key) text
 unfoldable pub key_named : List ℕ → Option Key
 key_named text = find (λ key. is_name_of key text) all_keys
 
--- Whether a parameter tells of a profile, tier and level (RFC 7798 7.1, RFC 9328 7.2).
+-- Whether a parameter belongs to a profile, tier and level (RFC 7798 7.1, RFC 9328 7.2).
 abbrev pub is_level_key : Key → Bool
 is_level_key TierFlag = true
 is_level_key LevelId = true

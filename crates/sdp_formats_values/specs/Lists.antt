@@ -26,7 +26,7 @@ unfoldable pub rid_restrictions_text : Bool → List Pair → List ℕ
 rid_restrictions_text has_types pairs = if is_empty pairs then []
     else if has_types then codes ";" ++ restrictions_text pairs else codes " " ++ restrictions_text pairs
 
--- A line with a value behind its name.
+-- A line with a name and a value.
 abbrev pub named : List ℕ → List ℕ → List ℕ
 named name value = spelled (name ∷ value ∷ line_end ∷ [])
 
@@ -35,7 +35,7 @@ abbrev pub named_output : List ℕ → Option (List ℕ) → Option (List ℕ)
 named_output name None = None
 named_output name (Some value) = Some (named name value)
 
--- A line with two values behind its name, a blank between them.
+-- A line with a name and two values separated by a blank.
 abbrev pub both : List ℕ → List ℕ → List ℕ → List ℕ
 both name first second = spelled (name ∷ first ∷ codes " " ∷ second ∷ line_end ∷ [])
 

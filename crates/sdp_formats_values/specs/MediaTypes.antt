@@ -1,7 +1,7 @@
 -- Kinds of sections, and how they are carried (RFC 8866 5.14).
 use Rattle.std.specs.Prelude.{ℕ, Bool, true, false, List, codes, Option, Some, None}
-use Rattle.payload_core_base.specs.declared.codec.MediaKind.{MediaKind}
-use Rattle.payload_core_base.specs.declared.codec.MediaKind.TheVariants as kind
+use Rattle.media_types.specs.declared.codec.MediaKind.{MediaKind}
+use Rattle.media_types.specs.declared.codec.MediaKind.TheVariants as kind
 use Rattle.sdp_formats_values.specs.declared.media_type.MediaType.{MediaType}
 use Rattle.sdp_formats_values.specs.declared.media_type.MediaType.TheVariants.{Audio, Video, Application, Unknown}
 use Rattle.sdp_formats_values.specs.declared.media_type.Proto.{Proto}

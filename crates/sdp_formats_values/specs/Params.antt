@@ -6,10 +6,10 @@ use Rattle.std.specs.Cmp.Lexicographic.{pointwise}
 use Rattle.std.specs.List.{list_any}
 use Rattle.indexmap.specs.IndexMap.{insert_entry}
 use Rattle.std.specs.Str.{bytes_eq, str_eq_ignore_ascii_case}
-use Rattle.h26x_payload_profiles.specs.H265ProfileTierLevel.{given as given_265}
-use Rattle.h26x_payload_profiles.specs.H266ProfileTierLevel.{given as given_266}
-use Rattle.h26x_payload_profiles.specs.H265ProfileTierLevel.{H265ProfileTierLevel as Level265}
-use Rattle.h26x_payload_profiles.specs.H266ProfileTierLevel.{H266ProfileTierLevel as Level266}
+use Rattle.media_types.specs.H265ProfileTierLevel.{given as given_265}
+use Rattle.media_types.specs.H266ProfileTierLevel.{given as given_266}
+use Rattle.media_types.specs.H265ProfileTierLevel.{H265ProfileTierLevel as Level265}
+use Rattle.media_types.specs.H266ProfileTierLevel.{H266ProfileTierLevel as Level266}
 use Rattle.sdp_formats_values.specs.declared.key.Key.{Key}
 use Rattle.sdp_formats_values.specs.declared.key.Key.TheVariants as key
 use Rattle.sdp_formats_values.specs.declared.pairs.Pair.{Pair}
@@ -29,7 +29,7 @@ use Rattle.sdp_formats_values.specs.Numbers.{numeral_below, profile_level, up_to
 abbrev pub flag : List ℕ → Bool
 flag value = bytes_eq value (codes "1")
 
--- A parameter of a value that could be read.
+-- A parameter, if its value parses; otherwise Unknown.
 abbrev pub word_param : (ℕ → FormatParam) → Option ℕ → FormatParam
 word_param made (Some n) = made n
 word_param made None = Unknown
@@ -67,7 +67,8 @@ value_param key.ModeSet v = word_param ModeSet (modes_of v)
 value_param key.TierFlag v = Unknown
 value_param key.LevelId v = Unknown
 
--- The type that is retransmitted (RFC 4588 8.6), and what AMR-WB isn't supported with (RFC 4867 8.2).
+-- `apt`, the payload type that RTX repeats (RFC 4588 8.6), and the features that AMR-WB isn't supported with (RFC 4867
+-- 8.2).
 abbrev pub other_param : List ℕ → List ℕ → FormatParam
 other_param k v =
     if str_eq_ignore_ascii_case (codes "apt") k then word_param Apt (byte_value v)
@@ -100,7 +101,7 @@ is_level None = false
 abbrev pub gives_level : Pair → Bool
 gives_level p = is_level (key_named p.key)
 
--- The value of a name among pairs: that of the last pair of the name.
+-- The value of a name: that of the last pair with that name.
 abbrev pub or_before : Bool → List ℕ → Option (List ℕ) → Option (List ℕ)
 or_before true value before = Some value
 or_before false value before = before
@@ -109,7 +110,7 @@ abbrev pub last_value : List ℕ → Option (List ℕ) → List Pair → Option 
 last_value name before [] = before
 last_value name before (p ∷ ps) = last_value name (or_before (str_eq_ignore_ascii_case name p.key) p.value before) ps
 
--- Each key once, in lower case, at its first place with its last value (RFC 4855 3).
+-- Each key once, in lower case, in the order of first occurrence, with its last value (RFC 4855 3).
 abbrev pub Entries : Type 0
 Entries = List (List ℕ × List ℕ)
 
@@ -120,7 +121,7 @@ abbrev pub with_pairs : Entries → List Pair → Entries
 with_pairs before [] = before
 with_pairs before (p ∷ ps) = with_pairs (with_pair before p) ps
 
--- The profile, tier and level that three values mean: of H.265, else of H.266, else none.
+-- The profile, tier and level that three values mean for H.265, or else for H.266; or none.
 abbrev pub level_266 : Option Level266 → List FormatParam
 level_266 (Some x) = H266ProfileTierLevel x ∷ []
 level_266 None = []
@@ -158,7 +159,7 @@ level_params ps =
     (last_value (codes "level-id") None ps)
     ++ others_of (with_pairs [] ps)
 
--- The parameters of some pairs. Where one gives a tier or level, each key counts once, and the three keys of a
--- profile, tier and level are one parameter in front of the others (RFC 7798 7.1, RFC 9328 7.2).
+-- The parameters of pairs. If one gives a tier or level, each key counts once, and the three keys of a profile, tier
+-- and level become one parameter, in front (RFC 7798 7.1, RFC 9328 7.2).
 abbrev pub params_of : List Pair → List FormatParam
 params_of ps = if list_any gives_level ps then level_params ps else map pair_param ps

@@ -3,7 +3,7 @@ use Rattle.std.specs.Prelude.{ℕ, List, codes, if◌then◌else◌}
 use Rattle.std.specs.Str.{str_eq_ignore_ascii_case}
 use Rattle.sdp_formats_values.specs.declared.fingerprint.Fingerprint.{Fingerprint}
 
--- The place of a hash function, 0 first: SHA-256, SHA-1, any other; a name in capitals is the same name.
+-- The rank of a hash function, 0 first: SHA-256, SHA-1, any other; names are case-insensitive.
 abbrev pub place_of_hash : List ℕ → ℕ
 place_of_hash name =
     if str_eq_ignore_ascii_case name (codes "sha-256") then 0

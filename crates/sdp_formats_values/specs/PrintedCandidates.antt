@@ -33,7 +33,7 @@ tcp_type_text So = codes "so"
 abbrev pub related_text : RelatedAddress → List ℕ
 related_text r = spelled (r.addr ∷ codes " rport " ∷ decimal r.port ∷ [])
 
--- What stands behind the kind, each part where it is told.
+-- What follows the kind, each part if given.
 abbrev pub parts_text : Candidate → List ℕ
 parts_text c = spelled (maybe_text (codes " raddr ") (option_map related_text c.related)
     ∷ maybe_text (codes " tcptype ") (option_map tcp_type_text c.tcptype) ∷ maybe_text (codes " ufrag ") c.ufrag ∷ [])

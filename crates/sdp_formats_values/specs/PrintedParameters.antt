@@ -4,11 +4,11 @@ use Rattle.std.specs.Prelude.{filter, Option, None, Some}
 use Rattle.std.specs.Prelude.{codes}
 use Rattle.std.specs.Fmt.{decimal, digits, padded_integral, format_spec}
 use Rattle.sdp_formats_grammar.specs.Joined.{spelled, joined, each_behind}
-use Rattle.h26x_payload_profiles.specs.H265Profile.{profile_id as profile_265}
-use Rattle.h26x_payload_profiles.specs.Tier.{tier_flag}
-use Rattle.h26x_payload_profiles.specs.H265Level.{level_id as level_265}
-use Rattle.h26x_payload_profiles.specs.H266Profile.{profile_id as profile_266}
-use Rattle.h26x_payload_profiles.specs.H266Level.{level_id as level_266}
+use Rattle.media_types.specs.H265Profile.{profile_id as profile_265}
+use Rattle.media_types.specs.Tier.{tier_flag}
+use Rattle.media_types.specs.H265Level.{level_id as level_265}
+use Rattle.media_types.specs.H266Profile.{profile_id as profile_266}
+use Rattle.media_types.specs.H266Level.{level_id as level_266}
 use Rattle.sdp_formats_values.specs.declared.pairs.Pair.{Pair}
 use Rattle.sdp_formats_values.specs.declared.param.FormatParam.{FormatParam}
 use Rattle.sdp_formats_values.specs.declared.param.FormatParam.TheVariants.{MinPTime, Stereo, SpropStereo}
@@ -24,7 +24,7 @@ use Rattle.sdp_formats_values.specs.declared.param.FormatParam.TheVariants.{Apt,
 abbrev pub pair_text : Pair → List ℕ
 pair_text p = p.key ++ (codes "=" ++ p.value)
 
--- A value behind a name, where the value has a text.
+-- A name and a value, if the value has a text.
 abbrev pub named_output : List ℕ → Option (List ℕ) → Option (List ℕ)
 named_output name None = None
 named_output name (Some value) = Some (name ++ value)
@@ -52,7 +52,7 @@ modes_among modes all = map decimal (filter (has_mode modes) all)
 abbrev pub modes_text : ℕ → List ℕ
 modes_text modes = joined (codes ",") (modes_among modes (0 ∷ 1 ∷ 2 ∷ 3 ∷ 4 ∷ 5 ∷ 6 ∷ 7 ∷ 8 ∷ []))
 
--- Texts with commas between, the first behind one too unless it is the first of all.
+-- Texts separated by commas; the first also gets one, unless it is the first of all.
 abbrev pub modes_left : Bool → List (List ℕ) → List ℕ
 modes_left true texts = joined (codes ",") texts
 modes_left false texts = each_behind (codes ",") texts

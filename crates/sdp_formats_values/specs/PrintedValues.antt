@@ -22,7 +22,7 @@ abbrev pub way_text : RidDirection → List ℕ
 way_text Send = codes "send"
 way_text Recv = codes "recv"
 
--- A name, behind a tilde where its stream isn't active at first (RFC 8853 5.1).
+-- A stream's name, after a tilde if the stream is initially paused (RFC 8853 5.1).
 abbrev pub name_of : Bool → List ℕ → List ℕ
 name_of true name = name
 name_of false name = codes "~" ++ name

@@ -1,4 +1,4 @@
--- Which end opens a connection (RFC 4145 4).
+-- Which end opens the connection: the DTLS role (RFC 4145 4).
 use Rattle.std.specs.Prelude.{ℕ, List, codes, Option, Some, None}
 use Rattle.sdp_formats_values.specs.declared.setup.Setup.{Setup}
 use Rattle.sdp_formats_values.specs.declared.setup.Setup.TheVariants.{ActPass, Active, Passive}
@@ -8,13 +8,13 @@ setup_text ActPass = codes "actpass"
 setup_text Active = codes "active"
 setup_text Passive = codes "passive"
 
--- The same as the other end sees it.
+-- The role as the other end sees it.
 abbrev pub inverted : Setup → Setup
 inverted ActPass = ActPass
 inverted Active = Passive
 inverted Passive = Active
 
--- What an end is towards the other's choice (RFC 4145 4.1).
+-- The role an end takes given the other's (RFC 4145 4.1).
 abbrev pub towards : Setup → Setup → Option Setup
 towards ActPass ActPass = None
 towards ActPass Active = Some Passive

@@ -59,7 +59,7 @@ pub struct RelatedAddress {
 /// has been read from a text.
 #[derive(Debug, PartialEq, Eq, Hash, Drop)]
 pub struct Candidate {
-    /// Its foundation: candidates of one base and kind have the same.
+    /// Its foundation: candidates with the same base and kind share it.
     pub(crate) foundation: Text,
     /// The component of the stream, 1 for RTP.
     pub(crate) component_id: u16,
@@ -77,12 +77,12 @@ pub struct Candidate {
     pub(crate) related: Option<RelatedAddress>,
     /// Which end opens the connection, for TCP.
     pub(crate) tcptype: Option<TcpType>,
-    /// The name of the credentials that it belongs to, if it is told.
+    /// The ufrag it belongs to, if given.
     pub(crate) ufrag: Option<Text>,
 }
 
 impl Candidate {
-    /// Its foundation: candidates of one base and kind have the same.
+    /// Its foundation: candidates with the same base and kind share it.
     pub fn foundation(&self) -> &str
         ensures { result.now ≡ self.now.foundation }
     {
@@ -145,7 +145,7 @@ impl Candidate {
         self.tcptype
     }
 
-    /// The name of the credentials that it belongs to, if it is told.
+    /// The ufrag it belongs to, if given.
     pub fn ufrag(&self) -> Option<&str>
         ensures { option_copied result ≡ self.now.ufrag }
     {

@@ -72,7 +72,7 @@ fn tcptype_field(text: Option<&str>) -> Result<(Option<TcpType>, Option<&str>), 
     Ok((maybe_tcptype(word)?, rest))
 }
 
-/// The name of the credentials, among fields that are passed over, up to the end.
+/// The ufrag, among fields that are ignored, up to the end.
 #[tactic(auto, unfolding(crate::specs::Candidates::ufrag_field))]
 fn ufrag_field(text: Option<&str>) -> Result<Option<&str>, Refusal>
     ensures { GivesBy option_copied result (ufrag_field (option_copied text.entry)) }

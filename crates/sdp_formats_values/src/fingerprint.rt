@@ -17,8 +17,8 @@ pub struct Fingerprint {
 }
 
 impl Fingerprint {
-    /// The place of its hash function among those that are preferred, 0 first: SHA-256, SHA-1, any other. Names are
-    /// compared without regard to case (RFC 8122 5).
+    /// The rank of its hash function, 0 first: SHA-256, SHA-1, any other. Names are
+    /// case-insensitive (RFC 8122 5).
     #[tactic(auto, unfolding(crate::specs::Preference::hash_preference))]
     pub fn hash_preference(&self) -> u8
         ensures { result ≡ hash_preference self.now }

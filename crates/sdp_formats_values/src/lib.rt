@@ -25,7 +25,6 @@ pub use candidate::{Candidate, CandidateKind, IceCreds, Protocol, RelatedAddress
 pub use candidate_reader::candidate_of;
 pub use fingerprint::Fingerprint;
 pub use fingerprint_reader::FingerprintError;
-pub use h26x_payload_profiles::{H265ProfileTierLevel, H266ProfileTierLevel};
 pub use key::Key;
 pub use lists::{Mids, Restrictions, RidRestrictions, Sources, Words, write_both, write_value};
 pub use media_type::{MediaType, Proto};

@@ -1,4 +1,4 @@
-//! How the keys of one line are hashed.
+//! How a line's keys are hashed.
 
 ghost use Rattle.std.specs.Prelude.{◌≡◌};
 ghost use Rattle.sdp_formats_values.specs.Hashed.{with_keys};
@@ -6,8 +6,8 @@ ghost use Rattle.sdp_formats_values.specs.Hashed.{with_keys};
 use crate::pairs::Pair;
 use std::hash::{BuildHasher, DefaultHasher, Hasher};
 
-// Makes hashers that have read all keys of a line already, so that keys whose hashes are the same can't be looked for
-// one by one: with each further key all hashes are others.
+// Makes hashers that have already read all keys of a line, so that an attacker can't search for
+// colliding keys one by one: each further key changes all hashes.
 #[derive(Clone, Copy, Drop)]
 pub(crate) struct LineHasher(DefaultHasher);
 

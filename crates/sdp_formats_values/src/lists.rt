@@ -4,7 +4,7 @@ ghost use Rattle.std.specs.Fmt.{DisplaysOnOk};
 ghost use Rattle.sdp_formats_values.specs.Lists.{both_output, named_output};
 
 use crate::pairs::Pair;
-use rtp_wire_values::{Mid, Ssrc};
+use rtp_wire::{Mid, Ssrc};
 use sdp_formats_grammar::{Joined, Text};
 use std::fmt;
 use std::fmt::Display;

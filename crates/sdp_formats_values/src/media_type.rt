@@ -3,7 +3,7 @@
 ghost use Rattle.std.specs.Prelude.{◌≡◌, IfOk};
 ghost use Rattle.sdp_formats_values.specs.MediaTypes.{is_channel, is_media, kind_of_type, proto_text};
 
-use payload_core_base::MediaKind;
+use media_types::MediaKind;
 use sdp_formats_grammar::Text;
 use std::alloc::{AllocError, Global};
 use std::fmt;

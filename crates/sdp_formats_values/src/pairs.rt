@@ -15,7 +15,7 @@ pub struct Pair {
     pub value: Text,
 }
 
-/// Written by hand so that crates that drop this type need no proof about its fields.
+/// Written by hand, so that crates that drop this type need no proof about its fields.
 impl Drop for Pair {
     fn drop(self) {
         let Pair {

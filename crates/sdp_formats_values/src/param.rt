@@ -7,8 +7,8 @@ ghost use Rattle.sdp_formats_values.specs.Params.{telephone_events};
 
 use crate::key::Key;
 use crate::numbers::{byte_of, don_diff_of, modes_of, profile_level_of, range_of, word_of};
-use h26x_payload_profiles::{H265ProfileTierLevel, H266ProfileTierLevel};
-use rtp_wire_values::Pt;
+use media_types::{H265ProfileTierLevel, H266ProfileTierLevel};
+use rtp_wire::Pt;
 
 /// One format parameter of an `a=fmtp` line (RFC 8866 6.15).
 #[derive(Clone, Copy, PartialEq, Eq, Drop)]
@@ -45,17 +45,18 @@ pub enum FormatParam {
     SpropMaxDonDiff(u16),
     /// The highest event code in the range `0-X` of telephone events (RFC 4733 2.4.1).
     TelephoneEvents(u8),
-    /// A bare range `0-X`, which means telephone events where the payload type carries them.
+    /// A bare range `0-X`, which means telephone events if that is what the payload type carries.
     BareRange(u8),
-    /// The first of payload types with slashes between, which means redundant audio where the payload type carries it.
+    /// The first of payload types separated by slashes, which means RED if that is what the payload
+    /// type carries.
     BarePtList(Pt),
     /// AMR-WB `octet-align`: whether payloads are octet-aligned, else bandwidth-efficient (RFC 4867 8.2).
     OctetAlign(bool),
     /// AMR-WB `mode-set`: the speech modes that may be used, bit m for mode m, 0 to 8 (RFC 4867 8.2).
     ModeSet(u16),
-    /// An AMR-WB parameter that needs what isn't supported here, as `crc=1` (RFC 4867 8.2).
+    /// An AMR-WB parameter for an unsupported feature, such as `crc=1` (RFC 4867 8.2).
     AmrWbUnsupported,
-    /// The payload type whose packets are retransmitted (RFC 4588 8.6).
+    /// The payload type that RTX repeats (RFC 4588 8.6).
     Apt(Pt),
     /// The payload type that redundant audio wraps (RFC 2198 5).
     Red(Pt),

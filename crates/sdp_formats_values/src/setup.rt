@@ -1,14 +1,14 @@
-//! Which end opens a connection (RFC 4145 4).
+//! Which end opens the connection: the DTLS role (RFC 4145 4).
 
 ghost use Rattle.std.specs.Prelude.{◌≡◌};
 ghost use Rattle.sdp_formats_values.specs.Setup.{setup_text, inverted, towards};
 
 use std::fmt;
 
-/// Which end opens a connection (RFC 4145 4).
+/// Which end opens the connection: the DTLS role (RFC 4145 4).
 #[derive(Clone, Copy, Debug, PartialEq, Eq, Default, Drop)]
 pub enum Setup {
-    /// Either end: the other one chooses.
+    /// Either end: the other end chooses.
     #[default]
     ActPass,
     /// This end.
@@ -41,8 +41,8 @@ impl Setup {
         }
     }
 
-    /// What this end is towards the other end's choice; None where both leave it open, or both claim one part
-    /// (RFC 4145 4.1).
+    /// The role of this end given the other end's; None if both leave it open, or both claim the
+    /// same role (RFC 4145 4.1).
     pub fn compare_to_remote(&self, remote: Setup) -> Option<Setup>
         ensures { result ≡ towards self.now remote }
     {

@@ -12,8 +12,8 @@ use crate::key::Key;
 use crate::line_hasher::LineHasher;
 use crate::pairs::Pair;
 use crate::param::{FormatParam, has_name};
-use h26x_payload_profiles::{H265ProfileTierLevel, H266ProfileTierLevel};
 use indexmap::IndexMap;
+use media_types::{H265ProfileTierLevel, H266ProfileTierLevel};
 use sdp_formats_grammar::{Listed, Text};
 use std::alloc::{AllocError, Global};
 

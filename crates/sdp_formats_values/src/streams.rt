@@ -6,17 +6,18 @@ ghost use Rattle.sdp_formats_values.specs.PrintedValues.{way_text, name_text};
 ghost use Rattle.sdp_formats_values.specs.Streams.{inverted};
 
 use crate::pairs::Pair;
-use rtp_wire_values::Ssrc;
+use rtp_wire::Ssrc;
 use sdp_formats_grammar::{Joined, Listed, Text};
 use std::alloc::{AllocError, Global};
 use std::fmt;
 use std::ops::DerefSlice;
 
-/// The name of an `a=rid` line (RFC 8851 4), and whether its stream is active at first: the name, and the flag.
+/// The name of an `a=rid` line (RFC 8851 4), and whether its stream is initially active (not
+/// paused).
 #[derive(Debug, PartialEq, Eq)]
 pub struct RestrictionId(pub Text, pub bool);
 
-/// Written by hand so that crates that drop this type need no proof about its fields.
+/// Written by hand, so that crates that drop this type need no proof about its fields.
 impl Drop for RestrictionId {
     fn drop(self) {
         let RestrictionId(_first, _second) = self;
@@ -101,7 +102,7 @@ pub struct SimulcastLayer {
     pub attributes: Option<Listed<Pair>>,
 }
 
-/// Written by hand so that crates that drop this type need no proof about its fields.
+/// Written by hand, so that crates that drop this type need no proof about its fields.
 impl Drop for SimulcastLayer {
     fn drop(self) {
         let SimulcastLayer {
@@ -164,7 +165,7 @@ pub struct Simulcast {
 }
 
 impl Simulcast {
-    /// The same as the other end sees it.
+    /// The role as the other end sees it.
     pub fn invert(self) -> Simulcast
         ensures value { result ≡ inverted self }
         ensures twice { inverted result ≡ self }

@@ -1,8 +1,8 @@
 //! The attributes of sessions and sections, and directions that are changed.
 
-use command_lines::ReplyText;
 use sdp_formats::{Direction, MediaAttribute, MediaLine, Sdp, Session, SessionAttribute};
 use std::alloc::{AllocError, Global};
+use words_and_replies::ReplyText;
 
 /// `attributes NAME`: each attribute of the session and of the sections as it is printed, with `unused` in front where
 /// it is of no known kind, and a section's line `m=` in front of its attributes.

@@ -4,8 +4,8 @@ use crate::files::put_file;
 use crate::rows::{Rows, put_rows};
 use crate::single_rows::{put_equality, put_feedback, put_score};
 use crate::values::{put_candidate, put_fingerprint, put_format, put_parameters, put_setup};
-use command_lines::{ReplyText, parted};
 use std::alloc::{AllocError, Global};
+use words_and_replies::{ReplyText, parted};
 
 /// What a line gives, by the rows that those before it left.
 pub(crate) fn answer(rt: &HostRuntime, rows: &mut Rows, line: &str) -> Result<String, AllocError> {

@@ -3,9 +3,9 @@
 
 use crate::rows::Change;
 use crate::words::{maybe_type, number_of, type_of};
-use command_lines::ReplyText;
 use sdp_formats::{Codec, CodecConfig, Joined, Pt};
 use std::alloc::Global;
+use words_and_replies::ReplyText;
 
 /// `enable CODEC RED` and `disable CODEC RED`: the default rows of a codec in place of all that it has, or none; RED is
 /// the word `red` where audio is to have a RED type.

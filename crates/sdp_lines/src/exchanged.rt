@@ -1,9 +1,9 @@
 //! Commands on offers and answers.
 
 use crate::texts::put_refusal;
-use command_lines::ReplyText;
 use sdp_formats::{Parse, Sdp, SdpAnswer, SdpError, SdpOffer};
 use std::alloc::Global;
+use words_and_replies::ReplyText;
 
 /// `offer NAME`: whether the text is an offer, and the offer is printed as its session text is.
 pub(crate) fn put_offer(alloc: Global, text: &str, reply: &mut ReplyText) {

@@ -6,10 +6,10 @@ use crate::listed::put_listed;
 use crate::printed::put_printed;
 use crate::said::put_said;
 use crate::texts::{put_prefixes, put_refusal, put_session, put_text};
-use command_lines::ReplyText;
 use sdp_formats::{Direction, Parse, Sdp};
 use std::alloc::Global;
 use std::fs;
+use words_and_replies::ReplyText;
 
 /// `COMMAND NAME ..`: the name, and what a command on the session text in the file of that name gives.
 pub(crate) fn put_file(

@@ -1,8 +1,8 @@
 //! The rows that sections list.
 
-use command_lines::ReplyText;
 use sdp_formats::{MediaLine, PayloadParams, RtpParams, Sdp};
 use std::alloc::Global;
+use words_and_replies::ReplyText;
 
 /// `listed NAME`: of each section its rows, each with its type, codec, clock rate, channels, format, feedback, and the
 /// types of its retransmissions and of its redundancy.

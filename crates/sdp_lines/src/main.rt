@@ -1,7 +1,7 @@
-//! Answers commands on session texts in files, on values that come alone, and on rows, rounds and configs, a line of
-//! standard input after the other. Its transcript holds texts of browsers and in the forms of other programs, texts by
-//! hand of each kind of line and at the bounds of each number, rows, and what rounds leave of them. What it answers was
-//! worked out apart from the project.
+//! Answers commands about SDP in files, single values, and rows, rounds and configs, one line of
+//! standard input at a time. Its transcript covers SDP of browsers and in the style of other
+//! programs, hand-written SDP with every kind of line and every number at its limits, rows, and the
+//! results of rounds. The expected answers were worked out independently of the project.
 #![tactic(auto)]
 
 mod attributes;

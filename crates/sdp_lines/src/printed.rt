@@ -1,12 +1,13 @@
 //! Session texts as they are printed, read again and copied.
 
 use crate::texts::put_refusal;
-use command_lines::ReplyText;
 use sdp_formats::{Parse, Sdp, SdpError, sdp_parser};
 use std::alloc::Global;
+use words_and_replies::ReplyText;
 
-/// `printed NAME`: how many lines are printed as they stood, whether the printed text is read whole and printed as it
-/// stands, and whether another reading of the text and a copy are the same value.
+/// `printed NAME`: how many lines are printed unchanged, whether the printed text is read
+/// completely and prints the same, and whether reading the text again and copying it give the same
+/// value.
 pub(crate) fn put_printed(alloc: Global, text: &str, reply: &mut ReplyText) {
     match sdp_parser(alloc, text) {
         Ok((sdp, _)) => {

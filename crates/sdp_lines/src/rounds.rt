@@ -1,8 +1,8 @@
 //! What rounds give, as text.
 
-use command_lines::ReplyText;
 use sdp_formats::{CodecConfig, Direction, PayloadParams, RoundError};
 use std::alloc::Global;
+use words_and_replies::ReplyText;
 
 /// Writes a row: its types, whether it is locked and uses transport-wide feedback, its codec, channels and format.
 fn put_row(alloc: Global, row: &PayloadParams, reply: &mut ReplyText) {

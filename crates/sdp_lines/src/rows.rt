@@ -3,9 +3,9 @@
 use crate::configs::{add_video, enable, put_distances};
 use crate::rounds::{put_own_rows, put_round};
 use crate::words::{row_of, spec_of, type_of};
-use command_lines::ReplyText;
 use sdp_formats::{CodecConfig, Direction};
 use std::alloc::{AllocError, Global};
+use words_and_replies::ReplyText;
 
 /// Whether there was memory for a change of rows; none where the line isn't understood.
 pub(crate) type Change = Option<Result<(), AllocError>>;

@@ -1,8 +1,8 @@
 //! What texts say, by their accessors.
 
-use command_lines::ReplyText;
 use sdp_formats::{Candidate, MediaAttribute, MediaLine, Sdp, Session, SimulcastLayer, Text};
 use std::alloc::{AllocError, Global};
+use words_and_replies::ReplyText;
 
 /// `says NAME`: what each accessor returns of the session, of each section and of the whole text, a line for each that
 /// answers something.

@@ -1,8 +1,8 @@
 //! Commands on rows that come alone: how well they match, their feedback, and what they equal.
 
 use crate::words::{row_of, spec_of};
-use command_lines::ReplyText;
 use sdp_formats::{PayloadParams, Pt};
+use words_and_replies::ReplyText;
 
 /// A new row of the codec at the front.
 fn new_row(words: &[&str]) -> Option<PayloadParams> {

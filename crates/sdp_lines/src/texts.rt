@@ -1,11 +1,11 @@
 //! Commands on whole session texts.
 
-use command_lines::ReplyText;
 use sdp_formats::{
     Bandwidth, MediaAttribute, MediaLine, Sdp, SdpError, Session, SessionAttribute, SsrcInfo,
     sdp_parser, session_parser,
 };
 use std::alloc::Global;
+use words_and_replies::ReplyText;
 
 /// `text NAME`: what a session text has: session attributes, attributes and sources of each section, lines of a form
 /// that isn't known, candidates, bundled sections, what its data channels have, and bytes that are left.

@@ -1,12 +1,12 @@
 //! Commands on values that come alone: candidates, fingerprints, setups and parameters of formats.
 
-use command_lines::ReplyText;
 use sdp_formats::{
     Candidate, Fingerprint, FingerprintError, FormatParams, Joined, Refusal, candidate_of,
     fingerprint_of, setup_of,
 };
 use std::alloc::Global;
 use std::hash::{DefaultHasher, Hash, Hasher};
+use words_and_replies::ReplyText;
 
 /// `candidate TEXT`: the candidate that stands behind `candidate:`, printed, and what its accessors return.
 pub(crate) fn put_candidate(alloc: Global, text: &str, reply: &mut ReplyText) {
@@ -58,7 +58,8 @@ fn hash_of(print: &Fingerprint) -> u64 {
     hasher.finish()
 }
 
-/// `setup WORD WORD`: an end's choice, the same as seen from the other end, and what it is towards the other's choice.
+/// `setup WORD WORD`: a DTLS role, the role as the other end sees it, and the role this end takes
+/// given the other's.
 pub(crate) fn put_setup((own, other): (&str, &str), reply: &mut ReplyText) {
     let (Ok(own), Ok(other)) = (setup_of(own), setup_of(other)) else {
         return reply.put("no setup");

@@ -4,10 +4,10 @@ use crate::headers::reading::{header_text, payload_text, run_text};
 use crate::headers::writing::{set_map, written};
 use crate::numbers::{extended, of_window};
 use crate::times::{comparison, difference, frequency, micros};
-use command_lines::CommandLine;
 use rtp_wire::{ExtensionMap, SeqNo, SeqNoWindow};
+use words_and_replies::CommandLine;
 
-/// What lines set for those behind them: which number each header extension has, and a window.
+/// What lines set for the lines after them: the ids of header extensions, and a window.
 #[derive(Drop)]
 pub(crate) struct Kept {
     map: ExtensionMap,

@@ -1,5 +1,6 @@
-//! Answers what is asked of headers, their extensions and padding, and of numbers, windows, clock rates and times, a
-//! line of standard input after the other. Its transcript holds what was made outside, beside what it gives.
+//! Answers questions about headers, their extensions and padding, and about numbers, windows, clock
+//! rates and times, one line of standard input at a time. Its transcript compares the results with
+//! data made by other programs.
 #![tactic(auto)]
 
 mod commands;
@@ -7,9 +8,9 @@ mod headers;
 mod numbers;
 mod times;
 
-use command_lines::CommandLine;
 use commands::{Kept, answer};
 use std::io;
+use words_and_replies::CommandLine;
 
 /// Answers each line by a line: a comment by itself, a command by what it gives, and another line, or a value that is
 /// refused, by the word `fault` and the reason.

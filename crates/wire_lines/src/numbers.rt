@@ -1,7 +1,7 @@
 //! Numbers and windows.
 
-use command_lines::CommandLine;
 use rtp_wire::{SeqNo, SeqNoWindow, extend_u7, extend_u8, extend_u15, extend_u16, extend_u32};
+use words_and_replies::CommandLine;
 
 /// `extend BITS PREVIOUS LOW`: a number of few bits, widened by the one before it, or by none where a dash stands.
 pub(crate) fn extended(line: &mut CommandLine<'_>) {
@@ -20,8 +20,9 @@ pub(crate) fn extended(line: &mut CommandLine<'_>) {
     })
 }
 
-/// `window N` is a window that recorded N alone, `window-after N` one that recorded all up to N, and `update N` records
-/// N at the window: each gives the greatest number. `accepts N` gives whether the window accepts N.
+/// `window N` makes a window that recorded N alone, `window-after N` one that recorded everything
+/// up to N, and `update N` records N: each prints the greatest number. `accepts N` prints whether
+/// the window accepts N.
 pub(crate) fn of_window(line: &mut CommandLine<'_>, window: &mut SeqNoWindow, command: &str) {
     let number = SeqNo::from(line.number::<u64>());
     match command {

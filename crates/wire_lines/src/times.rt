@@ -1,8 +1,8 @@
 //! Clock rates and times.
 
-use command_lines::{CommandLine, part};
 use rtp_wire::{Frequency, MediaTime};
 use std::cmp::Ordering;
+use words_and_replies::{CommandLine, part};
 
 /// `frequency RATE`: a clock rate again.
 pub(crate) fn frequency(line: &mut CommandLine<'_>) {
@@ -30,7 +30,7 @@ pub(crate) fn micros(line: &mut CommandLine<'_>) {
     }
 }
 
-/// `compare TIME TIME`: how the first stands to the second.
+/// `compare TIME TIME`: how the first compares with the second.
 pub(crate) fn comparison(line: &mut CommandLine<'_>) {
     let (first, second) = (time_of(line), time_of(line));
     line.put(match first.cmp(&second) {

@@ -6,20 +6,20 @@ ghost use Rattle.rtp_media_exchange.specs.Exchanges.{with_offer};
 ghost use Rattle.rtp_media_exchange.specs.Offers.{Accepts, Answers, offer_of};
 ghost use Rattle.rtp_media_exchange.specs.Refusals.{MayAccept, MayAnswer, Refuses, RefusesAccept, RefusesAnswer};
 ghost use Rattle.rtp_media_exchange.specs.Refusals.{RefusesNew, refusal_of_new, refusal_of_offer};
-ghost use Rattle.rtp_media_exchange.specs.Writable.{IsWritableSession};
+ghost use Rattle.sdp_formats_reader.specs.Writable.{IsWritableSession};
 ghost use Rattle.rtp_media_exchange.specs.Says.{AgreesOnText};
 ghost use Rattle.rtp_media_exchange.specs.Wishes.{SaysOffer};
-ghost use Rattle.rtp_media_exchange.specs.Sections.{are_sound};
+ghost use Rattle.rtp_media_sections.specs.Sections.{are_sound};
 ghost use Rattle.rtp_media_ends.specs.Ends.{new_end, with_exchange};
 ghost use Rattle.rtp_media_ends.specs.Connections.{Connects, HaveExchanged, HaveOneAgreement, IsRefused};
 
 use super::End;
-use rtp_media_exchange::{
-    CodecConfig, EndError, Exchange, ExchangeError, SectionSpec, Session, mutual_law,
-    one_agreement_law,
-};
+use rtp_media_exchange::{EndError, Exchange, ExchangeError, mutual_law, one_agreement_law};
+use rtp_media_sections::SectionSpec;
 use rtp_media_stream_table::StreamTable;
 use rtp_wire::ExtensionMap;
+use sdp_formats_data::Session;
+use sdp_formats_rounds::CodecConfig;
 use std::alloc::Global;
 
 impl End {

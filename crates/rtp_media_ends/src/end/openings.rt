@@ -1,7 +1,7 @@
 //! Streams that an end opens.
 
 ghost use Rattle.std.specs.Prelude.{◌≡◌, ◌≢◌, Some, None, length, true, OnOk, OnErr, IfOk, IfErr};
-ghost use Rattle.rtp_media_schedules.specs.Hearing.{holding_of, may_hold};
+ghost use Rattle.payload_core_buffer.specs.Buffered.{holding_of, may_hold};
 ghost use Rattle.rtp_media_ends.specs.Ends.{after_open_receiver, after_open_sender, agreed_red};
 ghost use Rattle.rtp_media_ends.specs.Ends.{is_receiver_at, is_sender_at, new_receiver, new_sender};
 ghost use Rattle.rtp_media_ends.specs.Ends.{refusal_of_open_receiver, refusal_of_open_sender, sender_at};

@@ -1,7 +1,7 @@
 //! Datagrams received one after the other, and then all units that are ready.
 
 ghost use Rattle.std.specs.Prelude.{◌≡◌, ℕ, List, OnOk, OnErr, IfOk};
-ghost use Rattle.rtp_media_schedules.specs.Hearing.{Holding};
+ghost use Rattle.payload_core_buffer.specs.Buffered.{Holding};
 ghost use Rattle.rtp_media_streams.specs.Polls.{AreAnswered};
 ghost use Rattle.rtp_media_streams.specs.Sending.{Sample, Sending};
 ghost use Rattle.rtp_media_ends.specs.Ends.{with_streams};

@@ -4,11 +4,17 @@ ghost use Rattle.std.specs.Prelude.{◌≡◌, true, OnOk, OnErr, IfErr, IfOk};
 ghost use Rattle.payload_core_buffer.specs.Steps.{AnswersBy};
 ghost use Rattle.rtp_media_streams.specs.Polls.{IsPolled, IsPolledSome, drain_step, found, poll_step};
 ghost use Rattle.rtp_media_ends.specs.EndArrivals.{verdict_of, after_datagram};
-ghost use Rattle.rtp_media_ends.specs.Ends.{AtReceiver, is_receiver_at};
+ghost use Rattle.payload_core_buffer.specs.Buffered.{is_done};
+ghost use Rattle.rtp_media_streams.specs.Missing.{missing};
+ghost use Rattle.rtp_media_streams.specs.Passing.{passed_to};
+ghost use Rattle.rtp_media_streams.specs.Receiving.{with_stream};
+ghost use Rattle.rtp_media_ends.specs.Ends.{AtReceiver, is_receiver_at, receiver_at, with_receiver};
 
 use super::End;
+use payload_core_buffer::Unit;
 use rtp_media_stream_table::{ReceiveError, Received};
-use rtp_media_streams::{PollFault, Unit};
+use rtp_media_streams::PollFault;
+use rtp_wire::SeqNo;
 use std::alloc::{AllocError, AllocFailed};
 
 impl End {
@@ -39,6 +45,52 @@ impl End {
     {
         let streams = &mut self.streams;
         streams.receive_owned(datagram)
+    }
+
+    /// Whether a number of a receiving stream is done with: a unit with this number or one above it was handed out, or a
+    /// frame with it was refused. A datagram of such a number is of no use any more.
+    ///
+    /// # Conditions
+    /// The number is that of a receiving stream: [`End::is_receiver`].
+    pub fn is_passed(&self, stream: usize, number: SeqNo) -> bool
+        requires { is_receiver_at self.now stream ≡ true }
+        ensures { result ≡ is_done (receiver_at self.now stream).stream.cutoff number }
+    {
+        self.streams.is_passed(stream, number)
+    }
+
+    /// Is done with all numbers of a receiving stream up to this one: what waits of them is dropped, a fragment that is
+    /// open between units is given up, and the frame after the number is next, so that hold-back protects it. A number
+    /// that is done with already changes nothing.
+    ///
+    /// So a stream begins with a key frame: before the first poll, pass to the number before its first packet. So it
+    /// goes on at once after a loss that nobody repairs, and so what it holds is given back.
+    ///
+    /// # Conditions
+    /// The number is that of a receiving stream: [`End::is_receiver`].
+    pub fn pass_to(&mut self, stream: usize, number: SeqNo)
+        requires { is_receiver_at self.old stream ≡ true }
+        ensures { self.new ≡ with_receiver self.old stream (with_stream (receiver_at self.old stream)
+            (passed_to number (receiver_at self.old stream).stream)) }
+    {
+        let streams = &mut self.streams;
+        streams.pass_to(stream, number);
+    }
+
+    /// The missing numbers of a receiving stream, in increasing order: those after the last unit's, or, before any unit,
+    /// after the lowest packet that waits, that were not taken, below the greatest that was and within the replay
+    /// window. These, and no others, are worth asking for (generic NACK, RFC 4585 6.2.1); they are at most 1,023.
+    ///
+    /// # Conditions
+    /// The number is that of a receiving stream: [`End::is_receiver`].
+    ///
+    /// # Errors
+    /// Out of memory for the list.
+    pub fn missing(&self, stream: usize) -> Result<Vec<SeqNo>, AllocError>
+        requires { is_receiver_at self.now stream ≡ true }
+        ensures { IfOk result (λ numbers. numbers.items ≡ missing (receiver_at self.now stream).stream) }
+    {
+        self.streams.missing(stream)
     }
 
     /// The next unit of a receiving stream, where one is ready: the lowest one, if it begins right

@@ -11,10 +11,10 @@ use crate::agree::accepted_agreement;
 use crate::answering::written;
 use crate::errors::ExchangeError;
 use crate::said_sections::read;
-use rtp_media_section_laws::{
-    printable_sections_law, printed_sections_law, read_sections_keep_rows, wanted_sections_law,
+use rtp_media_sections::{
+    SectionSpec, printable_sections_law, printed_sections_law, read_sections_keep_rows,
+    wanted_sections_law,
 };
-use rtp_media_sections::SectionSpec;
 
 impl Exchange {
     /// The text of the answer to an offer, of these sections; it is then agreed. A round runs with each offered

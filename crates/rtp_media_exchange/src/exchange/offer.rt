@@ -13,8 +13,9 @@ use crate::errors::ExchangeError;
 use crate::offered::{check_listed, check_named, offered_sections};
 use crate::print::text_of;
 use crate::widths::pass_sections;
-use rtp_media_section_laws::{printable_sections_law, printed_sections_law, wanted_sections_law};
-use rtp_media_sections::{SectionSpec, may_follow};
+use rtp_media_sections::{
+    SectionSpec, may_follow, printable_sections_law, printed_sections_law, wanted_sections_law,
+};
 
 impl Exchange {
     /// That these sections may be offered.

@@ -16,7 +16,8 @@ use crate::errors::ExchangeError;
 use crate::offered::check_named;
 use crate::settle::{check_accepted, check_media, settled};
 use crate::widths::pass_sections;
-use rtp_media_sections::{CodecConfig, Section, SectionSpec, corresponds, may_follow};
+use rtp_media_sections::{Section, SectionSpec, corresponds, may_follow};
+use sdp_formats_rounds::CodecConfig;
 
 impl Exchange {
     /// The config after the rounds with the sections of a text, where these are exchanged for wanted ones.

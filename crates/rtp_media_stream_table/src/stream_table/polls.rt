@@ -5,7 +5,8 @@ ghost use Rattle.rtp_media_stream_table.specs.Polled.{AnswersAll, AnswersSome, A
 
 use super::StreamTable;
 use crate::open_stream::OpenStream;
-use rtp_media_streams::{PollFault, Unit};
+use payload_core_buffer::Unit;
+use rtp_media_streams::PollFault;
 use std::alloc::{AllocError, Global};
 use std::marker::Model;
 
@@ -74,7 +75,7 @@ fn poll_out(alloc: Global, stream: &mut OpenStream) -> Result<Polls, AllocError>
     ensures some { OnErr result (AnswersSome stream.old stream.new) }
 {
     let answers = match stream {
-        OpenStream::Sender(_) => Vec::new(alloc),
+        OpenStream::Sender(_) | OpenStream::Closed => Vec::new(alloc),
         OpenStream::Receiver(receiver) => receiver.poll_all()?,
     };
     Ok(Polls { answers })

@@ -1,14 +1,16 @@
 //! Rows added to a config.
 
 ghost use Rattle.std.specs.Prelude.{◌≡◌, OnOk, OnErr};
-ghost use Rattle.payload_core_base.specs.declared.codec.Codec.TheVariants.{H264};
+ghost use Rattle.media_types.specs.declared.codec.Codec.TheVariants.{H264};
 ghost use Rattle.sdp_formats_rows.specs.Codecs.{full_spec, spec_of};
 ghost use Rattle.sdp_formats_rows.specs.Rows.{new_row};
 ghost use Rattle.sdp_formats_rounds.specs.Configs.{with_row};
 ghost use Rattle.sdp_formats_rows.specs.DefaultRows.{h264_format, h265_row, h266_row};
 
 use super::CodecConfig;
-use sdp_formats_rows::{Codec, CodecSpec, FormatParams, Frequency, PayloadParams, Pt, rows};
+use media_types::Codec;
+use rtp_wire::{Frequency, Pt};
+use sdp_formats_rows::{CodecSpec, FormatParams, PayloadParams, rows};
 use std::alloc::AllocError;
 
 impl CodecConfig {

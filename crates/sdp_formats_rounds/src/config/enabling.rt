@@ -1,15 +1,16 @@
 //! The default rows of a codec enabled and disabled.
 
 ghost use Rattle.std.specs.Prelude.{◌≡◌, [], ◌∷◌, false, IsOk, OnOk, OnErr};
-ghost use Rattle.payload_core_base.specs.declared.codec.Codec.TheVariants.{Opus, PCMU, PCMA, G722, CN, AmrWb, Vp8};
-ghost use Rattle.payload_core_base.specs.declared.codec.Codec.TheVariants.{Vp9, Av1, H264, H265, H266};
+ghost use Rattle.media_types.specs.declared.codec.Codec.TheVariants.{Opus, PCMU, PCMA, G722, CN, AmrWb, Vp8};
+ghost use Rattle.media_types.specs.declared.codec.Codec.TheVariants.{Vp9, Av1, H264, H265, H266};
 ghost use Rattle.sdp_formats_rounds.specs.Configs.{with_rows, rows_if};
 ghost use Rattle.sdp_formats_rows.specs.DefaultRows.{opus_row, pcmu_row, pcma_row, g722_row, comfort_noise_row};
 ghost use Rattle.sdp_formats_rows.specs.DefaultRows.{amr_wb_row, vp8_row, vp9_rows, av1_row, h264_rows};
 ghost use Rattle.sdp_formats_rows.specs.DefaultRows.{h265_default, h266_default};
 
 use super::CodecConfig;
-use sdp_formats_rows::{Codec, PayloadParams, drop_rows, put_rows, rows};
+use media_types::Codec;
+use sdp_formats_rows::{PayloadParams, drop_rows, put_rows, rows};
 use std::alloc::AllocError;
 
 /// Whether both are one codec.

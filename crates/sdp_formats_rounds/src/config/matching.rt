@@ -3,7 +3,7 @@
 ghost use Rattle.std.specs.Prelude.{◌≡◌, ◌==◌, ◌&&◌, IfOk, find};
 ghost use Rattle.std.specs.List.{list_any};
 ghost use Rattle.std.specs.Option.{option_copied, option_map};
-ghost use Rattle.payload_core_base.specs.Codecs.{is_tele_codec};
+ghost use Rattle.media_types.specs.Codecs.{is_tele_codec};
 ghost use Rattle.rtp_wire.specs.Direction.{receives};
 ghost use Rattle.sdp_formats_rounds.specs.Best.{best_row};
 ghost use Rattle.sdp_formats_rounds.specs.Negotiated.{events_of};
@@ -12,8 +12,9 @@ ghost use Rattle.sdp_formats_rows.specs.Kinds.{rows_of_kind};
 
 use super::CodecConfig;
 use crate::best::best_row;
-use rtp_wire::Direction;
-use sdp_formats_rows::{MediaKind, PayloadParams, Pt, rows_of_kind};
+use media_types::MediaKind;
+use rtp_wire::{Direction, Pt};
+use sdp_formats_rows::{PayloadParams, rows_of_kind};
 use std::alloc::{AllocError, Global};
 
 impl CodecConfig {
@@ -24,8 +25,9 @@ impl CodecConfig {
         best_row(&params, self.params.as_slice())
     }
 
-    /// The payload type under which a row of the other end is used, where an own row matches it: its own type where the
-    /// other end receives, since that is what it takes, else the type of the own row that matches best (RFC 3264 5.1).
+    /// The payload type with which a remote row is used, if an own row matches it: the remote row's
+    /// type if the other end receives, since that is what it expects; otherwise that of the own row
+    /// that matches best (RFC 3264 5.1).
     pub fn sdp_match_remote(
         &self,
         remote_params: PayloadParams,

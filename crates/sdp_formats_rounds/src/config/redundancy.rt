@@ -24,8 +24,7 @@ fn kept_distances(alloc: Global, distances: &[u32]) -> Result<Vec<u32>, AllocErr
 }
 
 impl CodecConfig {
-    /// How many packets back each level of redundant audio lies, rising; `[1]` where it isn't set
-    /// (RFC 2198).
+    /// The distances of redundant audio, increasing; `[1]` by default (RFC 2198).
     pub fn red_distances(&self) -> &[u32]
         ensures { result.now ≡ distances_of self.now.distances }
     {

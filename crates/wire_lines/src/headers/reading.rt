@@ -1,7 +1,7 @@
 //! What is read, as text.
 
-use command_lines::CommandLine;
 use rtp_wire::{ExtensionMap, ExtensionValues, Reception, RtpHeader, receive_run, unpad_payload};
+use words_and_replies::CommandLine;
 
 /// The fields, each as the words of a header that is written say it.
 fn put_fields(line: &mut CommandLine<'_>, header: &RtpHeader) {

@@ -1,10 +1,10 @@
 //! Headers that are written, and their extensions.
 
-use command_lines::{CommandLine, part};
 use rtp_wire::{
     AbsCaptureTime, Extension, ExtensionMap, ExtensionValues, Mid, Pt, Rid, RtpHeader, Ssrc,
     VideoOrientation,
 };
+use words_and_replies::{CommandLine, part};
 
 /// `map NUMBER=NAME ..`: which number each header extension has from now on.
 pub(crate) fn set_map(line: &mut CommandLine<'_>, map: &mut ExtensionMap) {

@@ -1,4 +1,4 @@
-use Rattle.std.proofs.Common.{map, length, arith}
+use Rattle.std.proofs.Common.{map, arith}
 use Rattle.std.proofs.lemmas.List.{length-map}
 use Rattle.media_files.specs.Ivf.{size_of}
 use Rattle.media_files.specs.Units.{timed}
@@ -10,10 +10,11 @@ pub loop-frame-init : goal.loop-frame-init
 loop-frame-init c = record {
   low = omega (arith, c.first_time-first.ensures.low);
   fits = λ k d below. absurd (omega (arith, below));
-  written = ivf_file-begun c.args.codec c.args.rate (length c.args.frames.now) c.first_time-first.result
+  written = ivf_file-begun c.args.codec c.args.rate c.ticks_of-ticks.result c.first_time-first.result
       (size_of c.picture_size.result.0 c.picture_size.result.1) (map timed c.args.frames.now)
       c.new-out.result.items c.push_header.new.out.items c.new-out.ensures.items
-      c.in_ok-push_header.ensures c.picture_size.ensures (simp length-map) c.first_time-first.ensures.value;
+      c.in_ok-push_header.ensures c.picture_size.ensures (cc (length-map c.args.frames.now timed))
+      c.first_time-first.ensures.value;
 }
 
 pub returns-in_err-push_frame-clause-refused : goal.returns-in_err-push_frame-clause-refused

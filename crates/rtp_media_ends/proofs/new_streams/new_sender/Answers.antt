@@ -1,6 +1,6 @@
 use Rattle.std.proofs.Common.{ap, sym, subst, arith}
 use Rattle.std.specs.Prelude.{Option}
-use Rattle.rtp_media_exchange.specs.Rows.{Row}
+use Rattle.sdp_formats_rows.specs.Rows.{Row}
 use Rattle.rtp_media_streams.specs.declared.types.PayloadTypes.{PayloadTypes}
 use Rattle.rtp_media_ends.specs.Ends.{red_in}
 use Rattle.rtp_media_ends.specs.FullArrival.{IsSender}

@@ -1,5 +1,5 @@
 use Rattle.std.proofs.Common.{◌≡◌, ◌++◌, drop, map}
-use Rattle.rtp_media_section_laws.specs.PrintedSections.{named}
+use Rattle.rtp_media_sections.specs.PrintedSections.{named}
 use Rattle.rtp_media_exchange.proofs.read_back.all_named.Given as goal
 
 -- the extensions so far, and those of the rest

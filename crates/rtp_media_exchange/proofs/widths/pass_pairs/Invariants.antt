@@ -1,5 +1,5 @@
 use Rattle.std.proofs.Common.{drop}
-use Rattle.rtp_media_section_laws.specs.PrintableSections.{IsLowPair}
+use Rattle.rtp_media_sections.specs.PrintableSections.{IsLowPair}
 use Rattle.sdp_formats_rounds.specs.Members.{IsEach}
 use Rattle.rtp_media_exchange.proofs.widths.pass_pairs.Given as goal
 

@@ -1,6 +1,6 @@
 use Rattle.std.proofs.Common.{◌∙◌, sym, ap, subst, Bool, is_some, List}
 use Rattle.std.specs.List.{Contains}
-use Rattle.payload_core_base.specs.declared.codec.Codec.{Codec}
+use Rattle.media_types.specs.declared.codec.Codec.{Codec}
 use Rattle.h26x_payload.specs.Codings.{plain_forms, with_zero_id}
 use Rattle.rtp_media_streams.specs.Rows.{packing_of, settings_in}
 use Rattle.rtp_media_streams.proofs.codecs.packetizer_for.Goals as goal

@@ -1,8 +1,8 @@
 use Rattle.std.proofs.Common.{◌≡◌, ℕ, List, ◌+◌, ◌<◌, length, arith, append_assoc, ap, sym, subst, ◌∙◌, ◌++◌, take}
 use Rattle.std.proofs.Common.{length-append, length-take}
 use Rattle.rtp_wire.specs.Layout.{words}
-use Rattle.rtp_wire_extensions.specs.Written.{IsWritten}
-use Rattle.rtp_wire.proofs.Lengths.{words-more, length-words}
+use Rattle.rtp_wire.specs.Written.{IsWritten}
+use Rattle.rtp_wire.proofs.LengthsLemmas.{words-more, length-words}
 use Rattle.rtp_wire.proofs.writing.write_words.Goals as goal
 
 pub loop-word-preserved : goal.loop-word-preserved

@@ -1,6 +1,6 @@
 use Rattle.std.proofs.Common.{◌≡◌, ℕ, ◌+◌, ◌*◌, ◌++◌, List, length, take}
 use Rattle.rtp_wire.specs.Layout.{words}
-use Rattle.rtp_wire_extensions.specs.Written.{IsWritten}
+use Rattle.rtp_wire.specs.Written.{IsWritten}
 use Rattle.rtp_wire.proofs.writing.write_words.Given as goal
 
 -- the first words are written

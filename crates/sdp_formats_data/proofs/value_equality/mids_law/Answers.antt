@@ -3,9 +3,9 @@ use Rattle.std.proofs.Math.Seq.{take-append_seam}
 use Rattle.std.proofs.lemmas.Bool.{eqb-true}
 use Rattle.std.specs.Cmp.Lexicographic.{same_text}
 use Rattle.std.specs.Prelude.{◌-◌, replicate}
-use Rattle.rtp_wire_values.specs.Name.{filled}
-use Rattle.rtp_wire_values.specs.contracts.names.MidEq.TheImpl.Laws.{laws-law}
-use Rattle.rtp_wire_values.specs.contracts.names.MidPartialEq.TheImpl as mids
+use Rattle.rtp_wire.specs.Name.{filled}
+use Rattle.rtp_wire.specs.contracts.names.MidEq.TheImpl.Laws.{laws-law}
+use Rattle.rtp_wire.specs.contracts.names.MidPartialEq.TheImpl as mids
 use Rattle.sdp_formats_data.proofs.Both.{both}
 use Rattle.sdp_formats_data.proofs.value_equality.mids_law.Goals as goal
 

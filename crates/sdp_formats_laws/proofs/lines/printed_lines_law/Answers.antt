@@ -1,5 +1,5 @@
-use Rattle.sdp_formats_attributes.specs.Choice.{attribute_line}
-use Rattle.sdp_formats_attributes.specs.AsRead.{as_read}
+use Rattle.sdp_formats_reader.specs.AttributesChoice.{attribute_line}
+use Rattle.sdp_formats_reader.specs.AsRead.{as_read}
 use Rattle.std.proofs.Common.{◌∷◌}
 use Rattle.sdp_formats_data.specs.PrintedMedia.{attribute_text}
 use Rattle.sdp_formats_data.specs.declared.media.MediaAttribute.TheVariants.{Fmtp}

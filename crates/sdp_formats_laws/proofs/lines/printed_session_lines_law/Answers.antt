@@ -1,5 +1,5 @@
 use Rattle.std.proofs.Common.{codes}
-use Rattle.sdp_formats_reader.specs.Choice.{attribute_line}
+use Rattle.sdp_formats_reader.specs.ReaderChoice.{attribute_line}
 use Rattle.sdp_formats_data.specs.PrintedSession.{attribute_text}
 use Rattle.sdp_formats_data.specs.declared.session.SessionAttribute.TheVariants.{AllowMixedExts, Unused}
 use Rattle.sdp_formats_laws.proofs.Printed.{printed_line}

@@ -1,9 +1,9 @@
 use Rattle.std.proofs.Common.{Ok, ap, refl, subst, sym, ◌∙◌}
 use Rattle.sdp_formats_grammar.specs.Form.{any_text, made}
 use Rattle.sdp_formats_grammar.specs.Refusals.{Gives}
-use Rattle.sdp_formats_attributes.proofs.Choosing.{chosen, passed-on}
+use Rattle.sdp_formats_reader.proofs.Choosing.{chosen, passed-on}
 use Rattle.sdp_formats_data.specs.declared.session.SessionAttribute.TheVariants.{Unused}
-use Rattle.sdp_formats_reader.specs.Choice.{session_attribute, session_kinds}
+use Rattle.sdp_formats_reader.specs.ReaderChoice.{session_attribute, session_kinds}
 use Rattle.sdp_formats_reader.proofs.attribute_choice.session_attribute.Goals as goal
 
 pub returns-in-Some : goal.returns-in-Some

@@ -1,7 +1,7 @@
 use Rattle.std.proofs.Common.{codes, subst, sym}
 use Rattle.sdp_formats_grammar.specs.Refusals.{Gives}
-use Rattle.sdp_formats_attributes.specs.Transport.{in_session, transport_kinds}
-use Rattle.sdp_formats_attributes.proofs.OtherNames.{made-value, past}
+use Rattle.sdp_formats_reader.specs.Transport.{in_session, transport_kinds}
+use Rattle.sdp_formats_reader.proofs.OtherNames.{made-value, past}
 use Rattle.sdp_formats_reader.proofs.attribute_choice.session_value.Goals as goal
 
 pub returns-in_default : goal.returns-in_default

@@ -1,7 +1,7 @@
 use Rattle.std.proofs.Common.{sym, ap, ◌∙◌, lit<, Some, None}
 use Rattle.std.proofs.lemmas.Str.Pattern.{strip_suffix_char}
 use Rattle.sdp_formats_reader.specs.Groups.{without_last}
-use Rattle.sdp_formats_reader.proofs.Ends.{without-at, without-none}
+use Rattle.sdp_formats_reader.proofs.ReaderEnds.{without-at, without-none}
 use Rattle.sdp_formats_reader.proofs.groups.without_last.Goals as goal
 
 pub returns-in-Some : goal.returns-in-Some

@@ -1,5 +1,5 @@
 use Rattle.std.proofs.Common.{◌↔◌, Bool, IsTrue, subst, sym}
-use Rattle.sdp_formats_reader.specs.Choice.{attribute_line}
+use Rattle.sdp_formats_reader.specs.ReaderChoice.{attribute_line}
 use Rattle.sdp_formats_reader.specs.Writable.{ComesBack}
 use Rattle.sdp_formats_reader.specs.WholeLines.{IsLineOf}
 use Rattle.sdp_formats_reader.proofs.Reading.{line_read, none_read}

@@ -1,6 +1,6 @@
 use Rattle.std.proofs.Common.{◌≡◌, drop}
 use Rattle.std.specs.Prelude.{fold}
-use Rattle.sdp_formats_params.specs.OneParam.{with_codec_param}
+use Rattle.sdp_formats_rows.specs.OneParam.{with_codec_param}
 use Rattle.sdp_formats_section_rows.proofs.given.with_params.Given as goal
 
 -- the format so far with the parameters that are left

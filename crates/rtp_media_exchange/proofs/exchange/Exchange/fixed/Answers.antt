@@ -3,7 +3,7 @@ use Rattle.std.proofs.lemmas.Grind.{common_steps}
 use Rattle.rtp_wire.specs.Maps.{empty_map}
 use Rattle.rtp_wire.specs.Values.{Numbering}
 use Rattle.sdp_formats_data.specs.declared.session.Session.{Session}
-use Rattle.rtp_media_sections.specs.Rows.{Row}
+use Rattle.sdp_formats_rows.specs.Rows.{Row}
 use Rattle.rtp_media_exchange.specs.Exchanges.{IsKept, bare_session, fixed}
 use Rattle.rtp_media_exchange.proofs.Keeping.{fixed_kept}
 use Rattle.rtp_media_exchange.proofs.exchange.Exchange.fixed.Goals as goal

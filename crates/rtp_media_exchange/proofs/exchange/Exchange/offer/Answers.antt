@@ -3,7 +3,7 @@ use Rattle.std.proofs.lemmas.Grind.{common_steps}
 use Rattle.std.specs.Prelude.{string_bytes}
 use Rattle.sdp_formats_data.specs.PrintedSession.{sdp_text}
 use Rattle.sdp_formats_rounds.specs.Members.{IsEach}
-use Rattle.rtp_media_section_laws.specs.PrintedSections.{as_read}
+use Rattle.rtp_media_sections.specs.PrintedSections.{as_read}
 use Rattle.rtp_media_exchange.specs.Answering.{HasWidths}
 use Rattle.rtp_media_exchange.specs.Exchanges.{Exchanged, IsKept}
 use Rattle.rtp_media_exchange.specs.Offers.{offer_of, offered_sections}

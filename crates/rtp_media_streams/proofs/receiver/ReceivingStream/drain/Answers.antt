@@ -10,6 +10,6 @@ returns c = record {
     map = c.self.inside.exts;
     row = c.self.inside.row;
     stream = stream_of c.self.inside.window c.self.inside.buffer _;
-  }) _ c.self.view_is _ c.unit_at.new.self.holding _ _ c.self.invariant c.unit_at.ensures.pops.same_holding
+  }) _ c.self.view_is _ c.unit_at.new.self.holding _ _ c.self.invariant.0 c.unit_at.ensures.pops.same_holding
       (c.unit_at.ensures.pops.answers));
 }

@@ -1,5 +1,5 @@
 use Rattle.std.proofs.Common.{◌≡◌, length, arith}
-use Rattle.rtp_wire.proofs.Lengths.{length-spelled_there, length-spelled_not}
+use Rattle.rtp_wire.proofs.LengthsLemmas.{length-spelled_there, length-spelled_not}
 use Rattle.rtp_wire.proofs.header.RtpHeader.wire_len.Goals as goal
 
 pub returns-then-self : goal.returns-then-self

@@ -1,7 +1,7 @@
 use Rattle.std.proofs.Common.{◌≡◌, [], length, arith, refl, ◌++◌, take, length-append, length-take}
 use Rattle.rtp_wire.specs.Layout.{words}
-use Rattle.rtp_wire.proofs.Lengths.{length-words, length-spelled, length-spelled_there, length-spelled_not}
-use Rattle.rtp_wire.proofs.Lengths.{spelled-there, spelled-not, IsWritten-none, IsWritten-as}
+use Rattle.rtp_wire.proofs.LengthsLemmas.{length-words, length-spelled, length-spelled_there, length-spelled_not}
+use Rattle.rtp_wire.proofs.LengthsLemmas.{spelled-there, spelled-not, IsWritten-none, IsWritten-as}
 use Rattle.rtp_wire.proofs.header.RtpHeader.write_to.Goals as goal
 
 pub write_words-at-requires : goal.write_words-at-requires

@@ -1,6 +1,6 @@
 use Rattle.std.proofs.Common.{codes}
 use Rattle.sdp_formats_grammar.specs.Exact.{after-exact}
-use Rattle.sdp_formats_reader.proofs.Exactness.{session_attribute-exact}
+use Rattle.sdp_formats_reader.proofs.ReaderExactness.{session_attribute-exact}
 use Rattle.sdp_formats_reader.proofs.attribute_choice.SessionAttributeLineLinedSessionAttribute.exact_law.Goals as goal
 
 pub returns : goal.returns

@@ -1,8 +1,0 @@
-use Rattle.command_lines.proofs.Parts.{plus_parts-split, plus_parts-whole}
-use Rattle.command_lines.proofs.bytes.split_plus.Goals as goal
-
-pub returns-in-Some : goal.returns-in-Some
-returns-in-Some c = plus_parts-split c.args.text.now c.in-Some.part c.in-Some.rest c.in-Some.ensures.cases
-
-pub returns-in-None : goal.returns-in-None
-returns-in-None c = plus_parts-whole c.args.text.now c.in-None.ensures.cases

@@ -1,0 +1,4 @@
+pub mod AsBox
+pub mod Bare
+pub mod Cutting
+pub mod Named

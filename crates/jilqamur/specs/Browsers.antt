@@ -1,0 +1,117 @@
+-- Results of the calls that exchange SDP with a browser.
+use Rattle.std.specs.Prelude.{ℕ, ◌≡◌, ◌⊎◌, IsTrue, false, List}
+use Rattle.rtp_media_browsers.specs.Calls.{AnswerPasses, IsRefused, OfferPasses}
+use Rattle.rtp_media_browsers.specs.Refusals.{answer_refusal, offer_refusal}
+use Rattle.rtp_media_browsers.specs.Tidied.{tidied}
+use Rattle.rtp_media_browsers.specs.Wanted.{wanted_of}
+use Rattle.rtp_media_browsers.specs.declared.error.BrowserError.{BrowserError}
+use Rattle.rtp_media_browsers.specs.declared.error.BrowserError.TheVariants as error
+use Rattle.rtp_media_browsers.specs.declared.plan.Plan.{Plan}
+use Rattle.rtp_media_browsers.specs.declared.wish.Wish.{Wish}
+use Rattle.rtp_media_ends.specs.Ends.{EndState}
+use Rattle.rtp_media_exchange.specs.Refusals.{RefusesAccept, RefusesAnswer}
+use Rattle.rtp_media_exchange.specs.declared.errors.ExchangeError.{ExchangeError}
+use Rattle.rtp_media_sections.specs.Sections.{Wanted, are_sound}
+use Rattle.sdp_formats_data.specs.declared.session.Sdp.{Sdp}
+use Rattle.std.specs.Prelude.{Option}
+use Rattle.jilqamur.specs.Codes.{ok, memory, text_unreadable, rest_unread, mid_not_kept, mid_twice}
+use Rattle.jilqamur.specs.Codes.{not_corresponding, section_rejected, several_bundles, outside_bundle}
+use Rattle.jilqamur.specs.Codes.{nothing_left, keys_alone, ufrag_not_fit, password_not_fit, setup_not_fit}
+use Rattle.jilqamur.specs.Codes.{not_writable, out_of_range}
+use Rattle.jilqamur.specs.Exchanges.{Accepted, Answered, exchange_code}
+
+-- The number of a refusal of a browser's text, or of one for a browser.
+abbrev pub browser_code : BrowserError → ℕ
+browser_code error.Unreadable = text_unreadable
+browser_code error.RestUnread = rest_unread
+browser_code (error.MidNotKept mid) = mid_not_kept
+browser_code error.MidTwice = mid_twice
+browser_code error.NotCorresponding = not_corresponding
+browser_code (error.Rejected mid) = section_rejected
+browser_code error.SeveralBundles = several_bundles
+browser_code (error.OutsideBundle mid) = outside_bundle
+browser_code error.NothingLeft = nothing_left
+browser_code (error.KeysAlone mid) = keys_alone
+browser_code error.UfragNotFit = ufrag_not_fit
+browser_code error.PasswordNotFit = password_not_fit
+browser_code error.SetupNotFit = setup_not_fit
+browser_code error.NotWritable = not_writable
+browser_code error.Memory = memory
+
+-- A browser's text is refused before it reaches the end.
+pub record IsHeldBack (text : List ℕ) (refusal : Sdp → Option BrowserError) (result : ℕ) : Type 0 where
+  pub error : BrowserError
+  pub refused : IsRefused text refusal error
+  pub number : result ≡ browser_code error
+
+-- What the end is given of a browser's offer, the sections it should answer with, and the plan remembered afterwards.
+pub record IsHanded (plan : Plan) (wishes : List Wish) (offer : List ℕ) (planned : Plan) (handed : List ℕ)
+    (sections : List Wanted) : Type 0 where
+  pub passes : OfferPasses (tidied offer) wishes plan planned handed
+  pub wanted : sections ≡ wanted_of planned wishes
+
+-- The end answers it.
+pub record AnswersBrowser (e : EndState) (plan : Plan) (wishes : List Wish) (offer text : List ℕ) (planned : Plan)
+    (after : EndState) : Type 0 where
+  pub handed : List ℕ
+  pub sections : List Wanted
+  pub is_handed : IsHanded plan wishes offer planned handed sections
+  pub sound : IsTrue (are_sound sections)
+  pub answered : Answered e handed sections text after
+
+-- The RTX pairs of a wish don't fit its SSRCs.
+pub record IsUnsoundWish (plan : Plan) (wishes : List Wish) (offer : List ℕ) (result : ℕ) : Type 0 where
+  pub handed : List ℕ
+  pub sections : List Wanted
+  pub planned : Plan
+  pub is_handed : IsHanded plan wishes offer planned handed sections
+  pub unsound : are_sound sections ≡ false
+  pub number : result ≡ out_of_range
+
+-- The end refuses what it is handed.
+pub record EndRefusesOffer (e : EndState) (plan : Plan) (wishes : List Wish) (offer : List ℕ) (result : ℕ)
+    : Type 0 where
+  pub handed : List ℕ
+  pub sections : List Wanted
+  pub planned : Plan
+  pub is_handed : IsHanded plan wishes offer planned handed sections
+  pub error : ExchangeError
+  pub refuses : RefusesAnswer e.exchange handed sections error
+  pub number : result ≡ exchange_code error
+
+-- Why a browser's offer isn't answered.
+abbrev pub IsUnanswered : EndState → Plan → List Wish → List ℕ → ℕ → Type 0
+IsUnanswered e plan wishes offer result = IsHeldBack (tidied offer) (offer_refusal (tidied offer) plan wishes) result
+    ⊎ (IsUnsoundWish plan wishes offer result ⊎ EndRefusesOffer e plan wishes offer result)
+
+-- The result of answering a browser's offer.
+abbrev pub AnswersOffered : EndState → Plan → List Wish → List ℕ → ℕ → List ℕ → Plan → EndState → Type 0
+AnswersOffered e plan wishes offer result text planned after =
+    ((result ≡ ok) × AnswersBrowser e plan wishes offer text planned after)
+    ⊎ (IsUnanswered e plan wishes offer result × (after ≡ e))
+
+-- The end takes what it is handed of a browser's answer.
+pub record AcceptsBrowser (e : EndState) (plan : Plan) (answer : List ℕ) (planned : Plan) (after : EndState)
+    : Type 0 where
+  pub handed : List ℕ
+  pub passes : AnswerPasses (tidied answer) plan planned handed
+  pub accepted : Accepted e handed after
+
+-- The end refuses it.
+pub record EndRefusesAnswer (e : EndState) (plan : Plan) (answer : List ℕ) (result : ℕ) : Type 0 where
+  pub handed : List ℕ
+  pub planned : Plan
+  pub passes : AnswerPasses (tidied answer) plan planned handed
+  pub error : ExchangeError
+  pub refuses : RefusesAccept e.exchange handed error
+  pub number : result ≡ exchange_code error
+
+-- Why a browser's answer isn't taken.
+abbrev pub IsUntaken : EndState → Plan → List ℕ → ℕ → Type 0
+IsUntaken e plan answer result =
+    IsHeldBack (tidied answer) (answer_refusal (tidied answer) plan) result ⊎ EndRefusesAnswer e plan answer result
+
+-- The result of accepting a browser's answer.
+abbrev pub AnswersTaken : EndState → Plan → List ℕ → ℕ → Plan → EndState → Type 0
+AnswersTaken e plan answer result planned after =
+    ((result ≡ ok) × AcceptsBrowser e plan answer planned after) ⊎ (IsUntaken e plan answer result × (after ≡ e))

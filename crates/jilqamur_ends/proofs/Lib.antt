@@ -1,2 +1,0 @@
-pub mod AsBox
-pub mod Bare

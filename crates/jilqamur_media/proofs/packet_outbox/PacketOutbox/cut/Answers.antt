@@ -1,7 +1,0 @@
-use Rattle.std.proofs.Common.{refl}
-use Rattle.jilqamur_media.proofs.Cutting.{cut-behind}
-use Rattle.jilqamur_media.proofs.packet_outbox.PacketOutbox.cut.Goals as goal
-
-pub returns-in-Ok-clause-after : goal.returns-in-Ok-clause-after
-returns-in-Ok-clause-after c = λ no.
-    cut-behind _ _ _ _ _ _ c.self.view_is c.self.invariant c.in-Ok.ensures.packets refl refl refl

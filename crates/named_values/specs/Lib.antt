@@ -1,4 +1,0 @@
-pub mod Fields
-pub mod Names
-pub mod Reading
-pub mod Tables

@@ -1,2 +1,0 @@
-mod Printed
-pub mod Sends

@@ -1,0 +1,192 @@
+//! Sections of an end as a browser is told of them.
+
+ghost use Rattle.std.specs.Prelude.{◌≡◌, ◌++◌, Some, IfOk, OnOk, filter, map};
+ghost use Rattle.std.specs.Option.{option_copied};
+ghost use Rattle.rtp_media_browsers.specs.Identities.{identified, in_order, is_listed, is_track_of, named_line};
+ghost use Rattle.rtp_media_browsers.specs.Identities.{named_value, ordered, track_lines, tracks_sent, with_order};
+ghost use Rattle.rtp_media_sections.specs.Lines.{mid_of};
+ghost use Rattle.rtp_wire.specs.Direction.{sends};
+ghost use Rattle.sdp_formats_data.specs.Lookups.{direction_of};
+
+use crate::following::section_named;
+use crate::identity::{Identity, Track};
+use rtp_media_sections::mid_of;
+use rtp_wire::{Mid, Pt};
+use sdp_formats_data::{MediaAttribute, MediaLine};
+use sdp_formats_grammar::{Listed, Text};
+use std::alloc::{AllocError, Global};
+
+/// The value of a source's attribute.
+fn named_value(alloc: Global, cname: &Text, attr: &Text, value: &Text) -> Result<Text, AllocError>
+    ensures { IfOk result (λ t. t ≡ named_value cname.now attr.now value.now) }
+{
+    if attr.as_str() == "cname" {
+        return cname.clone(alloc);
+    }
+    value.clone(alloc)
+}
+
+/// An attribute; the CNAME of a source is this one.
+#[tactic(auto, unfolding(crate::specs::Identities::named_line))]
+fn named_line(
+    alloc: Global,
+    cname: &Text,
+    attribute: &MediaAttribute,
+) -> Result<MediaAttribute, AllocError>
+    ensures { IfOk result (λ a. a ≡ named_line cname.now attribute.now) }
+{
+    match attribute {
+        MediaAttribute::Ssrc { ssrc, attr, value } => Ok(MediaAttribute::Ssrc {
+            ssrc: *ssrc,
+            attr: attr.clone(alloc)?,
+            value: named_value(alloc, cname, attr, value)?,
+        }),
+        _ => attribute.clone(alloc),
+    }
+}
+
+fn named_lines(
+    alloc: Global,
+    cname: &Text,
+    attributes: &[MediaAttribute],
+) -> Result<Listed<MediaAttribute>, AllocError>
+    ensures { IfOk result (λ l. l ≡ map (named_line cname.now) attributes.now) }
+{
+    let mut named = Listed::new(alloc);
+    for attribute in attributes {
+        named.push(named_line(alloc, cname, attribute)?)?;
+    }
+    Ok(named)
+}
+
+fn is_track_of(mid: Mid, track: &Track) -> bool
+    ensures { result ≡ is_track_of mid track.now }
+{
+    track.mid.as_str() == mid.as_str()
+}
+
+/// Adds the streams and tracks of a section.
+fn push_tracks(
+    alloc: Global,
+    tracks: &[Track],
+    mid: Mid,
+    attributes: &mut Listed<MediaAttribute>,
+) -> Result<(), AllocError>
+    ensures { OnOk result (attributes.new ≡ attributes.old ++ track_lines tracks.now mid) }
+{
+    for track in tracks {
+        if is_track_of(mid, track) {
+            attributes.push(MediaAttribute::Msid(track.msid.clone(alloc)?))?;
+        }
+    }
+    Ok(())
+}
+
+/// Adds the streams and tracks of a section that sends.
+fn push_sent(
+    alloc: Global,
+    tracks: &[Track],
+    section: &MediaLine,
+    attributes: &mut Listed<MediaAttribute>,
+) -> Result<(), AllocError>
+    ensures { OnOk result (attributes.new
+        ≡ attributes.old ++ tracks_sent (sends (direction_of section.now.attrs)) tracks.now (mid_of section.now)) }
+{
+    if !section.direction().is_sending() {
+        return Ok(());
+    }
+    push_tracks(alloc, tracks, mid_of(section), attributes)
+}
+
+/// A section with this CNAME and these tracks.
+fn with_identity(
+    alloc: Global,
+    identity: &Identity,
+    section: MediaLine,
+) -> Result<MediaLine, AllocError>
+    ensures { IfOk result (λ m. m ≡ identified (Some identity.now) section) }
+{
+    let mut section = section;
+    let mut attrs = named_lines(alloc, &identity.cname, section.attrs.as_slice())?;
+    push_sent(alloc, identity.tracks.as_slice(), &section, &mut attrs)?;
+    section.attrs = attrs;
+    Ok(section)
+}
+
+/// A section with the end's CNAME and its tracks, where they are given.
+pub(crate) fn identified(
+    alloc: Global,
+    identity: Option<&Identity>,
+    section: MediaLine,
+) -> Result<MediaLine, AllocError>
+    ensures { IfOk result (λ m. m ≡ identified (option_copied identity.entry) section) }
+{
+    match identity {
+        Some(identity) => with_identity(alloc, identity, section),
+        None => Ok(section),
+    }
+}
+
+fn is_listed(types: &[Pt], pt: Pt) -> bool
+    ensures { result ≡ is_listed types.now pt }
+{
+    types.iter().any(|other| other.get() == pt.get())
+}
+
+/// Those of the types that are listed.
+fn listed_in(alloc: Global, types: &[Pt], others: &[Pt]) -> Result<Vec<Pt>, AllocError>
+    ensures { IfOk result (λ v. v.items ≡ filter (is_listed types.now) others.now) }
+{
+    let mut listed = Vec::new(alloc);
+    for pt in others {
+        if is_listed(types, *pt) {
+            listed.push(*pt)?;
+        }
+    }
+    Ok(listed)
+}
+
+/// Payload types in the order in which others list them, and behind these the ones that aren't there.
+fn in_order(alloc: Global, others: &[Pt], types: &[Pt]) -> Result<Listed<Pt>, AllocError>
+    ensures { IfOk result (λ l. l ≡ in_order others.now types.now) }
+{
+    let mut ordered = Listed::of(listed_in(alloc, types, others)?);
+    for pt in types {
+        if !is_listed(others, *pt) {
+            ordered.push(*pt)?;
+        }
+    }
+    Ok(ordered)
+}
+
+/// An answer's section with its payload types in the offer's order.
+fn with_order(
+    alloc: Global,
+    offered: Option<&MediaLine>,
+    section: MediaLine,
+) -> Result<MediaLine, AllocError>
+    ensures { IfOk result (λ m. m ≡ with_order (option_copied offered.entry) section) }
+{
+    let mut section = section;
+    if let Some(offered) = offered {
+        let types = in_order(alloc, offered.pts.as_slice(), section.pts.as_slice())?;
+        section.pts = types;
+    }
+    Ok(section)
+}
+
+/// A section with its payload types in the offer's order, in an answer.
+pub(crate) fn ordered(
+    alloc: Global,
+    is_answer: bool,
+    olds: &[MediaLine],
+    section: MediaLine,
+) -> Result<MediaLine, AllocError>
+    ensures { IfOk result (λ m. m ≡ ordered is_answer olds.now section) }
+{
+    if !is_answer {
+        return Ok(section);
+    }
+    let offered = section_named(olds, mid_of(&section));
+    with_order(alloc, offered, section)
+}

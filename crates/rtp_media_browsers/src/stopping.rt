@@ -1,0 +1,117 @@
+//! Sections that the browser or the end stops.
+
+ghost use Rattle.std.specs.Prelude.{◌≡◌, IfOk, OnErr, OnOk, map};
+ghost use Rattle.std.specs.Option.{option_copied};
+ghost use Rattle.rtp_media_browsers.specs.Following.{section_named};
+ghost use Rattle.rtp_media_browsers.specs.Places.{answered_or_new, answered_place, answered_places};
+ghost use Rattle.rtp_media_browsers.specs.Places.{stopped_place};
+
+use crate::following::section_named;
+use crate::placing::rejected;
+use crate::plan::{Place, Plan};
+use rtp_media_sections::mid_of;
+use rtp_wire::Mid;
+use sdp_formats_data::MediaLine;
+use sdp_formats_grammar::Listed;
+use std::alloc::{AllocError, Global};
+
+/// The place after the browser's answer.
+fn answered_place(alloc: Global, place: &Place, section: &MediaLine) -> Result<Place, AllocError>
+    ensures { IfOk result (λ p. p ≡ answered_place place.now section.now) }
+{
+    match place {
+        Place::Kept(name) => {
+            if section.disabled {
+                return Ok(Place::Taken(rejected(alloc, section)?));
+            }
+            Ok(Place::Kept(*name))
+        }
+        Place::Taken(_) => place.clone(alloc),
+    }
+}
+
+/// The place of a section of the browser's answer, where the plan has one or where it is new.
+fn answered_or_new(
+    alloc: Global,
+    place: Option<&Place>,
+    section: &MediaLine,
+) -> Result<Place, AllocError>
+    ensures { IfOk result (λ p. p ≡ answered_or_new (option_copied place.entry) section.now) }
+{
+    match place {
+        Some(place) => answered_place(alloc, place, section),
+        None => Ok(Place::Kept(mid_of(section))),
+    }
+}
+
+/// The places after the browser's answer; those of further sections, which the end's offer added, follow.
+pub(crate) fn answered_places(
+    alloc: Global,
+    places: &[Place],
+    sections: &[MediaLine],
+) -> Result<Listed<Place>, AllocError>
+    ensures { IfOk result (λ l. l ≡ answered_places places.now sections.now) }
+{
+    let mut after = Listed::new(alloc);
+    for (number, section) in sections.iter().enumerate() {
+        after.push(answered_or_new(alloc, places.get(number), section)?)?;
+    }
+    Ok(after)
+}
+
+/// The place of a section that the end stops, and any other place as it is.
+#[tactic(auto, unfolding(crate::specs::Places::stopped_place))]
+fn stopped_place(
+    alloc: Global,
+    section: Option<&MediaLine>,
+    mid: Mid,
+    place: &Place,
+) -> Result<Place, AllocError>
+    ensures { IfOk result (λ p. p ≡ stopped_place (option_copied section.entry) mid place.now) }
+{
+    match (section, place) {
+        (Some(section), Place::Kept(name)) => {
+            if mid.as_str() == name.as_str() {
+                return Ok(Place::Taken(rejected(alloc, section)?));
+            }
+            Ok(Place::Kept(*name))
+        }
+        _ => place.clone(alloc),
+    }
+}
+
+/// The places where the end stops the section of a name.
+fn stopped_places(
+    alloc: Global,
+    section: Option<&MediaLine>,
+    mid: Mid,
+    places: &[Place],
+) -> Result<Listed<Place>, AllocError>
+    ensures { IfOk result (λ l. l ≡ map (stopped_place (option_copied section.entry) mid) places.now) }
+{
+    let mut after = Listed::new(alloc);
+    for place in places {
+        after.push(stopped_place(alloc, section, mid, place)?)?;
+    }
+    Ok(after)
+}
+
+impl Plan {
+    /// Stops the section of a name: the end's next text rejects it in its place (RFC 8829 5.2.2). The end still has
+    /// the section, and offers it inactive. A name that the end doesn't have changes nothing. Where the offer is then
+    /// withdrawn, go on with a copy of the plan that was made before.
+    ///
+    /// # Errors
+    ///
+    /// `AllocError` where memory runs out. The plan is then as before.
+    pub fn stop(&mut self, alloc: Global, mid: Mid) -> Result<(), AllocError>
+        ensures stopped { OnOk result (self.new ≡ record self.old {
+          places = map (stopped_place (section_named self.old.sections mid) mid) self.old.places;
+        }) }
+        ensures unchanged { OnErr result (self.new ≡ self.old) }
+    {
+        let section = section_named(self.sections.as_slice(), mid);
+        self.places = stopped_places(alloc, section, mid, self.places.as_slice())?;
+        Ok(())
+    }
+}

@@ -1,4 +1,0 @@
-pub mod Answered
-pub mod Lines
-pub mod Noted
-pub mod Replies

@@ -1,0 +1,36 @@
+use Rattle.std.proofs.Common.{refl}
+use Rattle.rtp_media_forward.specs.Forwarding.{shift_to}
+use Rattle.rtp_media_forward.proofs.Relaying.{apart, between, ends, keeps, next-is, one-more, sends, skips, stays}
+use Rattle.rtp_media_forward.proofs.laws.forwarding_laws.Goals as goal
+
+pub returns-clause-sends : goal.returns-clause-sends
+returns-clause-sends c = λ values senders first before parts later f came is fits from within.
+    sends values senders first before parts later came f is from within
+
+pub returns-clause-between : goal.returns-clause-between
+returns-clause-between c = λ senders out parts f came is fits from within.
+    between senders out parts came f is from within
+
+pub returns-clause-apart : goal.returns-clause-apart
+returns-clause-apart c = λ senders out parts f p q a b is fits from within e g same.
+    apart senders out parts f p q a b is from within e g same
+
+pub returns-clause-next : goal.returns-clause-next
+returns-clause-next c = λ senders out parts f last at xs ys is fits from within le e end.
+    next-is senders out parts f last at xs ys is from within le e end
+
+pub returns-clause-stays : goal.returns-clause-stays
+returns-clause-stays c = λ senders f came. stays senders came f
+
+pub returns-clause-switches : goal.returns-clause-switches
+returns-clause-switches c = λ out number time at parts q f is next from timed.
+    one-more out (shift_to time at) number q.source parts q f is next from refl timed
+
+pub returns-clause-skips : goal.returns-clause-skips
+returns-clause-skips c = skips
+
+pub returns-clause-keeps : goal.returns-clause-keeps
+returns-clause-keeps c = keeps
+
+pub returns-clause-ends : goal.returns-clause-ends
+returns-clause-ends c = ends

@@ -1,0 +1,85 @@
+-- How the packets of sources are numbered and timed where they are sent on.
+use Rattle.std.specs.Prelude.{ℕ, ◌+◌, ◌-◌, ◌%◌, ◌^◌, ◌&&◌, ◌==◌, nat_le, nat_lt, max, if◌then◌else◌, List, [], ◌∷◌}
+use Rattle.std.specs.Prelude.{◌++◌, length, drop, Bool, Option, Some, None, slice_get}
+use Rattle.rtp_media_forward.specs.declared.forwarder.Piece.{Piece}
+use Rattle.rtp_media_forward.specs.declared.forwarder.Placed.{Placed}
+
+-- What a stream sends on: pieces of sources, oldest first, and the first number above all those that it gave.
+pub record Forwarding : Type 0 where
+  pub pieces : List Piece
+  pub next : ℕ
+
+-- What is added to one timestamp so that it becomes the other, on the circle of 2^32 (RFC 3550 5.1).
+abbrev pub shift_to : ℕ → ℕ → ℕ
+shift_to time at = (at + (2 ^ 32 - time)) % 2 ^ 32
+
+abbrev pub shifted : ℕ → ℕ → ℕ
+shifted shift time = (time + shift) % 2 ^ 32
+
+-- Where the numbers of a piece end: at those of the piece behind it, the last one's at the end of all numbers.
+abbrev pub end_before : List Piece → ℕ
+end_before [] = 2 ^ 62
+end_before (p ∷ ps) = p.out
+
+-- The number of a source's packet in a piece: the numbers keep their distances.
+abbrev pub number_in : Piece → ℕ → ℕ
+number_in p number = p.out + (number - p.first)
+
+-- Whether a packet of a source is in a piece that ends here.
+abbrev pub is_in : Piece → (end source number : ℕ) → Bool
+is_in p end source number = (p.source == source) && (nat_le p.first number && nat_lt (number_in p number) end)
+
+-- Under which number and timestamp a source's packet is sent on: by the first piece that has it.
+abbrev pub placed_in : List Piece → (source number time : ℕ) → Option Placed
+placed_in [] source number time = None
+placed_in (p ∷ ps) source number time =
+    if is_in p (end_before ps) source number
+    then Some (record { number = number_in p number; time = shifted p.shift time })
+    else placed_in ps source number time
+
+abbrev pub placed : Forwarding → (source number time : ℕ) → Option Placed
+placed f source number time = placed_in f.pieces source number time
+
+-- After a packet.
+abbrev pub after_packet : Forwarding → Option Placed → Forwarding
+after_packet f None = f
+after_packet f (Some p) = record f { next = max f.next (p.number + 1) }
+
+-- Nothing is sent on, and the numbers begin here.
+abbrev pub nothing_from : ℕ → Forwarding
+nothing_from first = record { pieces = []; next = first }
+
+-- How many pieces are kept.
+abbrev pub most_pieces : ℕ
+most_pieces = 64
+
+-- The last so many.
+abbrev pub kept : List Piece → List Piece
+kept ps = if nat_lt most_pieces (length ps) then drop 1 ps else ps
+
+-- One piece more, behind all numbers that were given.
+abbrev pub with_piece : Forwarding → (source first shift : ℕ) → Forwarding
+with_piece f source first shift = record f {
+  pieces = kept (f.pieces ++ record { source = source; first = first; out = f.next; shift = shift } ∷ []);
+}
+
+-- A source from the packet of this number and timestamp on, which gets the timestamp `at`.
+abbrev pub switched : Forwarding → (source number time at : ℕ) → Forwarding
+switched f source number time at = with_piece f source number (shift_to time at)
+
+-- What is sent on last ends before its source's packet of this number: the next piece begins where that one would stand.
+abbrev pub ended_by : Forwarding → Option Piece → ℕ → Forwarding
+ended_by f None number = f
+ended_by f (Some p) number =
+    if is_in p (2 ^ 62) p.source number then record f { next = max f.next (number_in p number) } else f
+
+abbrev pub ended : Forwarding → ℕ → Forwarding
+ended f number = ended_by f (slice_get f.pieces (length f.pieces - 1)) number
+
+abbrev pub skipped_by : Forwarding → Option Piece → ℕ → Forwarding
+skipped_by f None number = f
+skipped_by f (Some p) number = with_piece f p.source number p.shift
+
+-- The source that is sent on last, from a later packet on, on its own clock.
+abbrev pub skipped : Forwarding → ℕ → Forwarding
+skipped f number = skipped_by f (slice_get f.pieces (length f.pieces - 1)) number

@@ -1,0 +1,3 @@
+pub mod Forwarding
+pub mod Relayed
+pub mod Relaying

@@ -1,0 +1,199 @@
+//! Numbers and timestamps of packets that are sent on.
+
+ghost use Rattle.std.specs.Prelude.{◌≡◌, ◌+◌, ◌<◌, ◌^◌, IfSome, OnErr, OnOk};
+ghost use Rattle.rtp_media_forward.specs.Forwarding.{after_packet, end_before, ended, is_in, nothing_from};
+ghost use Rattle.rtp_media_forward.specs.Forwarding.{placed, placed_in, shift_to, skipped, switched, with_piece};
+
+use std::alloc::{AllocError, Global};
+use std::marker::Model;
+
+/// The first number that can't be sent any more.
+const END_OF_NUMBERS: u64 = 0x4000_0000_0000_0000;
+
+/// How many pieces are kept.
+const MOST_PIECES: usize = 64;
+
+/// Where a packet stands among those that are sent on.
+#[derive(Clone, Copy, Debug, PartialEq, Eq, Drop)]
+pub struct Placed {
+    /// Its number.
+    pub number: u64,
+    /// Its timestamp.
+    pub time: u32,
+}
+
+/// A piece of a source that is sent on.
+#[derive(Clone, Copy, Debug, PartialEq, Eq, Drop)]
+pub struct Piece {
+    /// The source.
+    pub source: u64,
+    /// The number of its first packet at the source.
+    pub first: u64,
+    /// The number under which that one is sent.
+    pub out: u64,
+    /// What is added to timestamps.
+    pub shift: u32,
+}
+
+/// Numbers and times the packets of one source after another as those of one stream: the packets of a source keep their
+/// distances, and one source's begin right above the greatest number that was given before. Packets that come late are
+/// sent on where they belong, those of an earlier source too, as long as the last 64 pieces.
+#[derive(Drop)]
+pub struct Forwarder {
+    pieces: Vec<Piece>,
+    next: u64,
+}
+
+impl Model for Forwarder {
+    ghost use Rattle.rtp_media_forward.specs.Forwarding.{Forwarding};
+
+    ghost Value = { Forwarding };
+
+    ghost view = { λ f. record { pieces = f.pieces.items; next = f.next } };
+}
+
+/// What is added to a timestamp so that it becomes another.
+fn shift_to(time: u32, at: u32) -> u32
+    ensures { result ≡ shift_to time at }
+{
+    at.wrapping_sub(time)
+}
+
+impl Piece {
+    /// Whether it has a source's packet of this number, where its numbers end here.
+    fn has(&self, end: u64, source: u64, number: u64) -> bool
+        ensures { result ≡ is_in self.now end source number }
+    {
+        source == self.source
+            && self.first <= number
+            && number - self.first < end.saturating_sub(self.out)
+    }
+}
+
+/// Where the numbers before these pieces end.
+fn end_before(pieces: &[Piece]) -> u64
+    ensures end { result ≡ end_before pieces.now }
+{
+    match pieces.first() {
+        Some(piece) => piece.out,
+        None => END_OF_NUMBERS,
+    }
+}
+
+/// Where a source's packet stands in these pieces.
+fn placed_in(pieces: &[Piece], source: u64, number: u64, time: u32) -> Option<Placed>
+    ensures placed { result ≡ placed_in pieces.now source number time }
+    ensures below { IfSome result (λ p. p.number + 1 < 2 ^ 64) }
+{
+    for i in 0..pieces.len() {
+        let piece = pieces[i];
+        if piece.has(end_before(&pieces[i + 1..]), source, number) {
+            return Some(Placed {
+                number: piece.out + (number - piece.first),
+                time: time.wrapping_add(piece.shift),
+            });
+        }
+    }
+    None
+}
+
+impl Forwarder {
+    /// Sends nothing on; the first packet will get the number `first`.
+    pub fn new(alloc: Global, first: u64) -> Self
+        ensures { result ≡ nothing_from first }
+    {
+        Forwarder {
+            pieces: Vec::new(alloc),
+            next: first,
+        }
+    }
+
+    /// The first number above all those that were given.
+    pub fn next(&self) -> u64
+        ensures { result ≡ self.now.next }
+    {
+        self.next
+    }
+
+    /// Under which number and timestamp a source's packet of these is sent on. None where no piece has it, and it is
+    /// not sent on.
+    pub fn place(&self, source: u64, number: u64, time: u32) -> Option<Placed>
+        ensures placed { result ≡ placed self.now source number time }
+        ensures below { IfSome result (λ p. p.number + 1 < 2 ^ 64) }
+    {
+        placed_in(self.pieces.as_slice(), source, number, time)
+    }
+
+    /// The same, and the number is given: the next piece begins above it.
+    pub fn forward(&mut self, source: u64, number: u64, time: u32) -> Option<Placed>
+        ensures placed { result ≡ placed self.old source number time }
+        ensures after { self.new ≡ after_packet self.old (placed self.old source number time) }
+    {
+        let placed = self.place(source, number, time)?;
+        self.next = self.next.max(placed.number + 1);
+        Some(placed)
+    }
+
+    /// Goes over to a source, from its packet of this number and timestamp on, which gets the timestamp `at` and the
+    /// next number. Between two frames of the source before: a frame whose last packets were not sent on yet is lost to
+    /// a receiver.
+    ///
+    /// # Errors
+    /// `AllocError`, and nothing has changed.
+    pub fn switch(&mut self, source: u64, number: u64, time: u32, at: u32) -> Result<(), AllocError>
+        ensures after { OnOk result (self.new ≡ switched self.old source number time at) }
+        ensures unchanged { OnErr result (self.new ≡ self.old) }
+    {
+        self.begin(source, number, shift_to(time, at))
+    }
+
+    /// Says that what is sent on of the source that is sent on last ends before its packet of this number, where that is
+    /// known, as from the first packet of its next frame: the next piece begins where that packet would stand, and
+    /// packets before it may still come.
+    pub fn end_at(&mut self, number: u64)
+        ensures { self.new ≡ ended self.old number }
+    {
+        if let Some(piece) = self.pieces.last() {
+            let piece = *piece;
+            if piece.has(END_OF_NUMBERS, piece.source, number) {
+                self.next = self.next.max(piece.out + (number - piece.first));
+            }
+        }
+    }
+
+    /// Leaves out what the source that is sent on sends before the packet of this number, which gets the next number;
+    /// the timestamps stay those of the source's clock. Between two frames, for layers that are not sent on.
+    ///
+    /// # Errors
+    /// `AllocError`, and nothing has changed.
+    pub fn skip_to(&mut self, number: u64) -> Result<(), AllocError>
+        ensures after { OnOk result (self.new ≡ skipped self.old number) }
+        ensures unchanged { OnErr result (self.new ≡ self.old) }
+    {
+        match self.pieces.last() {
+            Some(piece) => {
+                let piece = *piece;
+                self.begin(piece.source, number, piece.shift)
+            }
+            None => Ok(()),
+        }
+    }
+
+    /// Begins a piece.
+    fn begin(&mut self, source: u64, first: u64, shift: u32) -> Result<(), AllocError>
+        ensures after { OnOk result (self.new ≡ with_piece self.old source first shift) }
+        ensures unchanged { OnErr result (self.new ≡ self.old) }
+    {
+        let piece = Piece {
+            source,
+            first,
+            out: self.next,
+            shift,
+        };
+        self.pieces.push(piece)?;
+        if self.pieces.len() > MOST_PIECES {
+            self.pieces.remove(0);
+        }
+        Ok(())
+    }
+}

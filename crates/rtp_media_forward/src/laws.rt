@@ -1,0 +1,89 @@
+//! What holds of streams that are sent on packet by packet.
+
+ghost use Rattle.std.specs.Prelude.{◌≡◌, ℕ, ◌+◌, ◌^◌, ◌<◌, ◌≤◌, ◌⊎◌, List, [], ◌∷◌, ◌++◌, length, map, Ok, Some};
+ghost use Rattle.payload_core_base.specs.Format.{Format};
+ghost use Rattle.rtp_wire.specs.declared.values.ExtensionValues.{ExtensionValues};
+ghost use Rattle.rtp_media_schedules.specs.Hearing.{Content, EndsSilent, fresh, handed_out, heard};
+ghost use Rattle.payload_core_buffer.specs.Buffered.{Holding};
+ghost use Rattle.rtp_media_schedules.specs.Legal.{IsLegal};
+ghost use Rattle.rtp_media_schedules.specs.Orders.{IsSane, IsTame, first_size};
+ghost use Rattle.rtp_media_schedules.specs.SentSamples.{timed_unit};
+ghost use Rattle.rtp_media_schedules.specs.Samples.{canonical_units, datagrams, frame_sizes, whole_unit};
+ghost use Rattle.rtp_media_schedules.specs.Sending.{numbered};
+ghost use Rattle.rtp_media_schedules.specs.Turns.{Ask, Turn, event_of};
+ghost use Rattle.rtp_media_forward.specs.Forwarding.{Forwarding, ended, kept, shift_to, skipped, switched};
+ghost use Rattle.rtp_media_forward.specs.Relayed.{AreFrom, AreRead, Part, count_in, count_of, pieces_from, relayed};
+ghost use Rattle.rtp_media_forward.specs.Relaying.{AreBetween, AreWithin, Packet, after_all, datagrams_at};
+ghost use Rattle.rtp_media_forward.specs.Relaying.{numbers_of, place_of, sent_on};
+ghost use Rattle.rtp_media_forward.specs.declared.forwarder.Placed.{Placed};
+
+/// Packets that are sent on are datagrams of one stream, which sends the parts' samples with other times and values,
+/// whatever parts come later. Those that come are sent on as that stream's, each under its own number there, in whatever
+/// order they come and however often, late ones of earlier parts too (`sends`, `between`); no two datagrams get one number
+/// (`apart`). Once the last datagram of the last part was sent on, or the forwarder was told where it ends, the next
+/// number is the one behind it (`next`, `ends`), and the
+/// forwarder goes over to a next part, of another source (`switches`) or of the same one (`skips`). Of too many pieces
+/// the oldest is forgotten (`keeps`).
+pub fn forwarding_laws()
+    ensures sends { (values : ExtensionValues → ExtensionValues) (senders : ℕ → ℕ → Content) (first : ℕ)
+        (before parts later : List Part) (f : Forwarding) (came : List Packet) →
+        f.pieces ≡ pieces_from (first + count_of before) parts → first + count_of before + count_of parts ≤ 2 ^ 62
+        → AreFrom senders parts → AreWithin parts came →
+        sent_on values senders f came
+        ≡ datagrams_at (numbered first (datagrams (relayed values (before ++ parts ++ later))))
+        (numbers_of senders f came) }
+    ensures between { (senders : ℕ → ℕ → Content) (out : ℕ) (parts : List Part) (f : Forwarding)
+        (came : List Packet) →
+        f.pieces ≡ pieces_from out parts → out + count_of parts ≤ 2 ^ 62 → AreFrom senders parts
+        → AreWithin parts came → AreBetween out (out + count_of parts) (numbers_of senders f came) }
+    ensures apart { (senders : ℕ → ℕ → Content) (out : ℕ) (parts : List Part) (f : Forwarding) (p q : Packet)
+        (a b : Placed) →
+        f.pieces ≡ pieces_from out parts → out + count_of parts ≤ 2 ^ 62 → AreFrom senders parts
+        → AreWithin parts (p ∷ q ∷ []) → place_of senders f p ≡ Some a → place_of senders f q ≡ Some b
+        → a.number ≡ b.number → p ≡ q }
+    ensures next { (senders : ℕ → ℕ → Content) (out : ℕ) (parts : List Part) (f : Forwarding) (last : Packet)
+        (at : Placed) (xs ys : List Packet) →
+        f.pieces ≡ pieces_from out parts → out + count_of parts ≤ 2 ^ 62 → AreFrom senders parts
+        → AreWithin parts (xs ++ last ∷ ys) → f.next ≤ out + count_of parts → place_of senders f last ≡ Some at
+        → at.number + 1 ≡ out + count_of parts →
+        (after_all senders f (xs ++ last ∷ ys)).next ≡ out + count_of parts }
+    ensures ends { (out from : ℕ) (parts : List Part) (p : Part) (f : Forwarding) →
+        f.pieces ≡ pieces_from out (parts ++ p ∷ []) → out + count_of (parts ++ p ∷ []) < 2 ^ 62
+        → f.next ≤ out + count_of (parts ++ p ∷ []) → from ≡ p.first + count_in p →
+        (ended f from).next ≡ out + count_of (parts ++ p ∷ []) }
+    ensures stays { (senders : ℕ → ℕ → Content) (f : Forwarding) (came : List Packet) →
+        (after_all senders f came).pieces ≡ f.pieces }
+    ensures switches { (out number time at : ℕ) (parts : List Part) (q : Part) (f : Forwarding) →
+        f.pieces ≡ pieces_from out parts → f.next ≡ out + count_of parts → q.first ≡ number
+        → q.shift ≡ shift_to time at →
+        (switched f q.source number time at).pieces ≡ kept (pieces_from out (parts ++ q ∷ [])) }
+    ensures skips { (out number : ℕ) (parts : List Part) (p q : Part) (f : Forwarding) →
+        f.pieces ≡ pieces_from out (parts ++ p ∷ []) → f.next ≡ out + count_of (parts ++ p ∷ []) → q.first ≡ number
+        → q.source ≡ p.source → q.shift ≡ p.shift →
+        (skipped f number).pieces ≡ kept (pieces_from out (parts ++ p ∷ q ∷ [])) }
+    ensures keeps { (out : ℕ) (p : Part) (parts : List Part) →
+        (kept (pieces_from out (p ∷ parts)) ≡ pieces_from out (p ∷ parts))
+        ⊎ (kept (pieces_from out (p ∷ parts)) ≡ pieces_from (out + count_in p) parts) }
+{}
+
+/// A receiver of what is sent on: under every sane schedule it answers a legal selection of the parts' units, and under
+/// a tame one exactly these, with the times and values under which they are sent on. No frame is put together between
+/// the sources and it, and each source may be of its own encoder.
+pub fn relayed_laws()
+    ensures legal { (format : Format) (holding : Holding) (first : ℕ) (values : ExtensionValues → ExtensionValues)
+        (parts : List Part) (turns : List Turn) →
+        let samples = relayed values parts in
+        let events = map (event_of (numbered first (datagrams samples))) turns in
+        AreRead format parts → first + count_of parts ≤ 2 ^ 62 → IsSane first (count_of parts) [] turns →
+        IsLegal (canonical_units first samples) (heard format (fresh holding) events) }
+    ensures exact { (format : Format) (holding : Holding) (first : ℕ) (values : ExtensionValues → ExtensionValues)
+        (parts : List Part) (turns : List Turn) →
+        let samples = relayed values parts in
+        let events = map (event_of (numbered first (datagrams samples))) (turns ++ Ask ∷ []) in
+        let sizes = frame_sizes format samples in
+        AreRead format parts → first + count_of parts ≤ 2 ^ 62 →
+        IsTame first (count_of parts) holding (first_size sizes) [] first sizes (turns ++ Ask ∷ []) →
+        EndsSilent (heard format (fresh holding) events) →
+        map timed_unit (handed_out (heard format (fresh holding) events))
+        ≡ map (λ c. Ok (whole_unit c)) (canonical_units first samples) }
+{}

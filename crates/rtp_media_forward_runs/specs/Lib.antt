@@ -1,0 +1,4 @@
+pub mod FirstHop
+pub mod ForwardedRuns
+pub mod Hops
+pub mod Virtual

@@ -1,0 +1,8 @@
+//! Laws of whole runs over two hops whose middle forwards packets; no code.
+#![tactic(auto)]
+
+mod over_ends;
+mod over_hops;
+
+pub use over_ends::forwarded_runs_law;
+pub use over_hops::{first_hop_law, hops_laws};

@@ -1,5 +1,0 @@
-use Rattle.rtp_media_play.proofs.AnsweredRows.{answered_once, types_distinct}
-use Rattle.rtp_media_play.proofs.answered.answered_rows_law.Goals as goal
-
-pub returns : goal.returns
-returns c = record { exactly = answered_once; types = types_distinct }

@@ -1,6 +1,0 @@
-use Rattle.rtp_media_play.proofs.LateRepairs.{late}
-use Rattle.rtp_media_play.proofs.late_repairs.late_repairs_law.Goals as goal
-
-pub returns : goal.returns
-returns c = λ end rx holding sender samples before k hears sane came made.
-    late c.codec_law.ensures.codec_in_forms end rx holding sender samples before k hears sane came made

@@ -1,5 +1,0 @@
-use Rattle.rtp_media_play.proofs.DistinctNames.{names_distinct}
-use Rattle.rtp_media_play.proofs.names.names_law.Goals as goal
-
-pub returns : goal.returns
-returns c = record { exactly = names_distinct }

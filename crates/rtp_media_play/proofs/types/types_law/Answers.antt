@@ -1,5 +1,0 @@
-use Rattle.rtp_media_play.proofs.RepeatedTypes.{first_is_repeated, none_is_repeated}
-use Rattle.rtp_media_play.proofs.types.types_law.Goals as goal
-
-pub returns : goal.returns
-returns c = record { exactly = first_is_repeated; none = none_is_repeated }

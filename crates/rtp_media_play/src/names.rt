@@ -1,9 +1,0 @@
-//! The names of sections.
-
-ghost use Rattle.rtp_media_play.specs.Names.{NamesAreDistinct};
-
-/// Sections may stand beside one another, as far as their names go, exactly where no two of them have the same name: a
-/// name is unique in a session description (RFC 5888 4).
-pub fn names_law()
-    ensures exactly { NamesAreDistinct }
-{}

@@ -1,0 +1,15 @@
+pub mod Again
+pub mod Answered
+pub mod Codecs
+pub mod Headline
+pub mod Hops
+pub mod Kept
+pub mod Names
+pub mod OpusHops
+pub mod Pushing
+pub mod Redundancy
+pub mod Runs
+pub mod Schedules
+pub mod Types
+pub mod Units
+pub mod WellFormed

@@ -1,4 +1,0 @@
-pub mod PrintableSections
-pub mod PrintedSections
-pub mod ReadRounds
-pub mod WantedSections

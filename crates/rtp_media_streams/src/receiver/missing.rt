@@ -1,0 +1,89 @@
+//! Numbers that a receiving stream misses, and those that it shall not wait for.
+
+ghost use Rattle.std.specs.Prelude.{◌≡◌, IfOk};
+ghost use Rattle.payload_core_buffer.specs.Buffered.{is_done};
+ghost use Rattle.rtp_media_streams.specs.Missing.{is_awaited, missing, missing_in};
+ghost use Rattle.rtp_media_streams.specs.Passing.{passed_to};
+ghost use Rattle.rtp_media_streams.specs.Receiving.{with_stream};
+
+use super::ReceivingStream;
+use crate::codecs::depacketizer_for;
+use rtp_wire::{SeqNo, SeqNoWindow};
+use std::alloc::{AllocError, Global};
+
+/// How many numbers below the greatest a window covers.
+const REACH_BELOW: u64 = 1023;
+
+/// Whether a number that hasn't come is waited for, given the cutoff and the lowest number that is held.
+fn is_awaited(cutoff: Option<SeqNo>, lowest: Option<SeqNo>, number: SeqNo) -> bool
+    ensures { result ≡ is_awaited cutoff lowest number }
+{
+    match (cutoff, lowest) {
+        (Some(cutoff), _) => cutoff.get() < number.get(),
+        (None, Some(lowest)) => lowest.get() < number.get(),
+        (None, None) => false,
+    }
+}
+
+/// The numbers that are waited for, among those that the window reaches and hasn't recorded.
+fn missing_in(
+    alloc: Global,
+    cutoff: Option<SeqNo>,
+    lowest: Option<SeqNo>,
+    window: &SeqNoWindow,
+) -> Result<Vec<SeqNo>, AllocError>
+    ensures { IfOk result (λ numbers. numbers.items ≡ missing_in cutoff lowest (Some window.now)) }
+{
+    let greatest = window.max_seq().get();
+    (greatest.saturating_sub(REACH_BELOW)..greatest)
+        .map(SeqNo::from)
+        .filter(|number| is_awaited(cutoff, lowest, *number) && window.accepts(*number))
+        .collect(alloc)
+}
+
+impl ReceivingStream {
+    /// Whether a number is done with: a unit with this number or one above it was handed out, or a frame with it was
+    /// refused. A datagram with such a number is of no use any more.
+    pub fn is_passed(&self, number: SeqNo) -> bool
+        ensures { result ≡ is_done self.now.stream.cutoff number }
+    {
+        match self.buffer.cutoff() {
+            Some(cutoff) => number.get() <= cutoff.get(),
+            None => false,
+        }
+    }
+
+    /// Is done with all numbers up to this one: what waits of them is dropped, a fragment that is open between units is
+    /// given up, and the frame after the number is next, so that hold-back protects it. A number that is done with
+    /// already changes nothing.
+    pub fn pass_to(&mut self, number: SeqNo)
+        ensures { self.new ≡ with_stream self.old (passed_to number self.old.stream) }
+    {
+        if self.is_passed(number) {
+            return;
+        }
+        self.buffer.pass_to(number);
+        let depacketizer = depacketizer_for(self.alloc, &self.row);
+        self.buffer.set_depacketizer(depacketizer);
+    }
+
+    /// The missing numbers, in increasing order: those after the last unit's, or, before any unit, after the lowest
+    /// packet that waits, that were not taken, below the greatest that was and within the replay window. These, and no
+    /// others, are worth asking for (generic NACK, RFC 4585 6.2.1); they are at most 1,023.
+    ///
+    /// # Errors
+    /// Out of memory for the list.
+    pub fn missing(&self) -> Result<Vec<SeqNo>, AllocError>
+        ensures { IfOk result (λ numbers. numbers.items ≡ missing self.now.stream) }
+    {
+        match &self.window {
+            Some(window) => missing_in(
+                self.alloc,
+                self.buffer.cutoff(),
+                self.buffer.lowest(),
+                window,
+            ),
+            None => Ok(Vec::new(self.alloc)),
+        }
+    }
+}

@@ -1,9 +1,0 @@
--- Names in values.
-use Rattle.std.specs.Prelude.{◌≤◌, IfSome, length}
-use Rattle.rtp_wire_extensions.specs.declared.values.ExtensionValues.{ExtensionValues}
-
--- Each name that is there has a byte.
-pub record HasFullNames (v : ExtensionValues) : Type 0 where
-  pub mid : IfSome v.mid (λ text. 1 ≤ length text)
-  pub rid : IfSome v.rid (λ text. 1 ≤ length text)
-  pub rid_repair : IfSome v.rid_repair (λ text. 1 ≤ length text)

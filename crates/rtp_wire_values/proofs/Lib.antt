@@ -1,4 +1,0 @@
-pub mod NameLaws
-pub mod WideningLaws
-pub mod RingBits
-pub mod WindowLaws

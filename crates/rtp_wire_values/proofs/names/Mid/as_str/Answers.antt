@@ -1,5 +1,0 @@
-use Rattle.rtp_wire_values.proofs.NameLaws.{IsUtf8-name}
-use Rattle.rtp_wire_values.proofs.names.Mid.as_str.Goals as goal
-
-pub name_text-requires : goal.name_text-requires
-name_text-requires c = IsUtf8-name 16 _ c.self.invariant.name

@@ -1,6 +1,0 @@
-use Rattle.rtp_wire_values.proofs.NameLaws.{IsKept-name}
-use Rattle.rtp_wire_values.proofs.names.MidFromRefStr.from.Goals as goal
-
-pub invariant_of-result : goal.invariant_of-result
-invariant_of-result c = IsKept-name 16 _ _ c.as_bytes.result.now c.write_name-len.ensures.after
-    c.write_name-len.ensures.count

@@ -1,7 +1,0 @@
-use Rattle.std.proofs.Common.{replicate}
-use Rattle.rtp_wire_values.proofs.RingBits.{all-set}
-use Rattle.rtp_wire_values.proofs.WindowLaws.{ring-after}
-use Rattle.rtp_wire_values.proofs.window.SeqNoWindow.new_after.Goals as goal
-
-pub returns : goal.returns
-returns c = rw (← c.get.ensures) (ring-after c.get.result (replicate 16 18446744073709551615) all-set)

@@ -1,7 +1,0 @@
-use Rattle.std.proofs.Common.{codes}
-use Rattle.sdp_formats_grammar.specs.Exact.{after-exact}
-use Rattle.sdp_formats_attributes.proofs.Exactness.{media_attribute-exact}
-use Rattle.sdp_formats_attributes.proofs.choice.MediaAttributeLineLinedMediaAttribute.exact_law.Goals as goal
-
-pub returns : goal.returns
-returns c = after-exact (codes "a=") _ (media_attribute-exact c.pairs_law.ensures)

@@ -1,5 +1,0 @@
-use Rattle.sdp_formats_attributes.proofs.PairRounds.{pairs-exact}
-use Rattle.sdp_formats_attributes.proofs.laws.pairs_law.Goals as goal
-
-pub returns : goal.returns
-returns c = pairs-exact

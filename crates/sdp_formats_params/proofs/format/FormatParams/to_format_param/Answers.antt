@@ -1,9 +1,0 @@
-use Rattle.std.proofs.Common.{arith}
-use Rattle.std.proofs.lemmas.Grind.{common_steps}
-use Rattle.sdp_formats_params.proofs.format.FormatParams.to_format_param.Goals as goal
-
-pub loop-param-preserved : goal.loop-param-preserved
-loop-param-preserved c = grind (arith, common_steps)
-
-pub returns : goal.returns
-returns c = grind (arith, common_steps)

@@ -1,0 +1,21 @@
+use Rattle.media_types.proofs.FieldLaws.{on_ok}
+use Rattle.sdp_formats_rows.proofs.rows_fields.CodecSpecSerialize.serialize.Goals as goal
+
+pub returns : goal.returns
+returns g c = on_ok c.end_map.result
+    (λ end. (
+      _,
+      _,
+      c.in_ok-begin_map.ensures,
+      (
+        _,
+        c.in_ok-write_field.ensures,
+        (
+          _,
+          c.in_ok-write_field-2.ensures,
+          (_, c.in_ok-write_field-3.ensures, c.in_ok-write_field-4.ensures),
+        ),
+      ),
+      end,
+    ))
+    c.end_map.ensures

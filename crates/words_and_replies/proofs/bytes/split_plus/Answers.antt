@@ -1,0 +1,8 @@
+use Rattle.words_and_replies.proofs.Parts.{plus_parts-split, plus_parts-whole}
+use Rattle.words_and_replies.proofs.bytes.split_plus.Goals as goal
+
+pub returns-in-Some : goal.returns-in-Some
+returns-in-Some c = plus_parts-split c.args.text.now c.in-Some.part c.in-Some.rest c.in-Some.ensures.cases
+
+pub returns-in-None : goal.returns-in-None
+returns-in-None c = plus_parts-whole c.args.text.now c.in-None.ensures.cases

@@ -1,0 +1,50 @@
+//! The calls whose units the contract of `carry` says.
+
+ghost use Rattle.std.specs.Prelude.{IfSome};
+ghost use Rattle.worked_rows.specs.Call.{IsShortSample};
+
+use crate::calls::end;
+use crate::carrying::carry;
+use rtp_media_runs::{Played, Sample};
+use rtp_wire::{ExtensionValues, Frequency, MediaTime};
+use sdp_formats_rows::{PayloadParams, rows};
+use std::alloc::Global;
+
+/// Prints each codec whose call came to its end, without redundancy and with each payload behind the one before. None
+/// where one does not.
+pub(crate) fn print_calls(rt: &HostRuntime) -> Option<()> {
+    for use_red in [false, true] {
+        print_call(rt, rows::opus(use_red))?;
+        print_call(rt, rows::pcmu(use_red))?;
+        print_call(rt, rows::pcma(use_red))?;
+        print_call(rt, rows::g722(use_red))?;
+    }
+    Some(())
+}
+
+/// Prints the row's codec, once a call of ends of this row came to its end.
+fn print_call(rt: &HostRuntime, row: PayloadParams) -> Option<()> {
+    let _answers = call(rt.alloc(), row)?;
+    let _ = println!(*rt; "{}", row.spec().codec.as_str());
+    Some(())
+}
+
+/// A call of ends whose row this is, of three samples of 20 milliseconds.
+fn call(alloc: Global, row: PayloadParams) -> Option<Vec<Played>> {
+    let first = short_sample(alloc, 960, 10)?;
+    let second = short_sample(alloc, 1920, 11)?;
+    let third = short_sample(alloc, 2880, 12)?;
+    let samples = [first, second, third];
+    let mut a = end(alloc, row, 1)?;
+    let mut b = end(alloc, row, 2)?;
+    carry(alloc, row, &mut a, &mut b, &samples)
+}
+
+/// A sample of one byte.
+fn short_sample(alloc: Global, time: u64, byte: u8) -> Option<Sample>
+    ensures { IfSome result IsShortSample }
+{
+    let time = MediaTime::new(time, Frequency::FORTY_EIGHT_KHZ);
+    let bytes = vec![in alloc; byte].ok()?;
+    Some(Sample::new(time, ExtensionValues::absent(), bytes))
+}

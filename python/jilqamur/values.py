@@ -1,0 +1,187 @@
+"""What calls are given and what they tell."""
+
+from ctypes import byref
+from dataclasses import dataclass, fields
+
+from .codes import Code, Refused, done
+from .library import (ExtensionIds, FormatStruct, Header, NamesStruct, RowStruct, UnitStruct, ValuesStruct, c_size_t,
+                      fetched, lib, text)
+
+MIN_HELD = 4096
+"""The least number of packets that a stream may be opened to hold at most."""
+
+MAX_HELD = 16384
+"""The greatest number of packets that a stream may be opened to hold at most."""
+
+EXTENSIONS = {
+    "audio_level": "urn:ietf:params:rtp-hdrext:ssrc-audio-level",
+    "abs_send_time": "http://www.webrtc.org/experiments/rtp-hdrext/abs-send-time",
+    "transport_cc": "http://www.ietf.org/id/draft-holmer-rmcat-transport-wide-cc-extensions-01",
+    "video_orientation": "urn:3gpp:video-orientation",
+    "play_delay": "http://www.webrtc.org/experiments/rtp-hdrext/playout-delay",
+    "video_content_type": "http://www.webrtc.org/experiments/rtp-hdrext/video-content-type",
+    "capture_time": "http://www.webrtc.org/experiments/rtp-hdrext/abs-capture-time",
+    "mid": "urn:ietf:params:rtp-hdrext:sdes:mid",
+    "rid": "urn:ietf:params:rtp-hdrext:sdes:rtp-stream-id",
+    "repaired_rid": "urn:ietf:params:rtp-hdrext:sdes:repaired-rtp-stream-id",
+}
+"""The URIs of header extensions, by the fields of `ExtensionIds`."""
+
+
+def given(struct: object, name: str, value: object) -> None:
+    """Puts a value that may be absent into a struct with a field that says whether it is there."""
+    setattr(struct, f"has_{name}", value is not None)
+    if value is not None:
+        setattr(struct, name, value)
+
+
+@dataclass(frozen=True)
+class Row:
+    """A payload type, and what it stands for. G.722's clock rate is 8,000, as in texts, or 16,000."""
+
+    payload_type: int
+    codec: str
+    clock_rate: int
+    channels: int | None = None
+    resend: int | None = None
+    red: int | None = None
+    format: str = ""
+
+    def struct(self) -> RowStruct:
+        told = RowStruct(payload_type=self.payload_type, clock_rate=self.clock_rate)
+        for name in ("channels", "resend", "red"):
+            given(told, name, getattr(self, name))
+        return told
+
+
+@dataclass(frozen=True)
+class Format:
+    """How payloads are read and written, beside their codec."""
+
+    clock_rate: int
+    octet_align: bool | None = None
+    max_don_diff: int | None = None
+
+    def struct(self) -> FormatStruct:
+        told = FormatStruct(clock_rate=self.clock_rate)
+        given(told, "octet_align", self.octet_align)
+        given(told, "max_don_diff", self.max_don_diff)
+        return told
+
+
+@dataclass(frozen=True)
+class Event:
+    """One report of a telephone event (RFC 4733 2.3); the duration is in nanoseconds."""
+
+    event: int
+    end: bool
+    volume: int
+    duration: int
+
+
+@dataclass(frozen=True)
+class Unit:
+    """A video frame or an audio packet: its bytes, the widened numbers of its first and last datagram, its RTP
+    timestamp, and what its codec tells of it."""
+
+    data: bytes
+    first: int
+    last: int
+    time: int
+    is_keyframe: bool
+    picture_id: int | None = None
+    base_layer: int | None = None
+    event: Event | None = None
+
+    @staticmethod
+    def of(told: UnitStruct, data: bytes) -> "Unit":
+        event = Event(told.event, told.event_end, told.event_volume, told.event_duration) if told.has_event else None
+        return Unit(data, told.first, told.last, told.time, told.is_keyframe,
+                    told.picture_id if told.has_picture_id else None,
+                    told.base_layer if told.has_base_layer else None, event)
+
+
+@dataclass(frozen=True)
+class Values:
+    """The values of header extensions (RFC 8285), except the names of sections and streams. Units are those of
+    include/jilqamur.h."""
+
+    audio_level: int | None = None
+    voice_activity: bool | None = None
+    abs_send_time: int | None = None
+    transport_cc: int | None = None
+    video_orientation: int | None = None
+    play_delay_min: int | None = None
+    play_delay_max: int | None = None
+    video_content_type: int | None = None
+    capture_time: int | None = None
+    clock_offset: int | None = None
+
+    def struct(self) -> ValuesStruct:
+        told = ValuesStruct()
+        for field in fields(self):
+            given(told, field.name, getattr(self, field.name))
+        return told
+
+    @staticmethod
+    def of(told: ValuesStruct) -> "Values":
+        return Values(**{field.name: getattr(told, field.name) for field in fields(Values)
+                         if getattr(told, f"has_{field.name}")})
+
+
+@dataclass(frozen=True)
+class Names:
+    """The names of section and stream that a datagram carries."""
+
+    mid: str | None = None
+    rid: str | None = None
+    repaired_rid: str | None = None
+
+    @staticmethod
+    def of(told: NamesStruct) -> "Names":
+        def name(field: str) -> str | None:
+            if not getattr(told, f"has_{field}"):
+                return None
+            return bytes(getattr(told, field))[:getattr(told, f"{field}_len")].decode()
+        return Names(name("mid"), name("rid"), name("repaired_rid"))
+
+
+def read_header(datagram: bytes) -> Header:
+    """The header in front of a datagram. `Refused`, UNREADABLE, if it doesn't begin with one."""
+    header = Header()
+    done(lib.header_read(*text(datagram), byref(header)))
+    return header
+
+
+def write_header(header: Header) -> bytes:
+    """The bytes of a header. `Refused`, UNWRITABLE."""
+    return fetched(lib.header_write, byref(header))
+
+
+def read_values(datagram: bytes, ids: ExtensionIds) -> tuple[Values, Names]:
+    """The values of the header extensions of a datagram, read by these ids, and its names. `Refused`, OUT_OF_RANGE for
+    an id above 16, or UNREADABLE."""
+    values, names = ValuesStruct(), NamesStruct()
+    done(lib.header_values(*text(datagram), byref(ids), byref(values), byref(names)))
+    return Values.of(values), Names.of(names)
+
+
+def payload_of(header: Header, behind: bytes) -> bytes:
+    """The payload in the bytes that follow a header, without padding. `Refused`, DAMAGED."""
+    length = c_size_t()
+    done(lib.payload_unpad(header.has_padding, *text(behind), byref(length)))
+    return behind[:length.value]
+
+
+def widen(previous: int, low: int) -> int:
+    """The number nearest to the previous one with these low 16 bits, modulo 2^64."""
+    return lib.number_widen(previous, low)
+
+
+def is_taken(code: int) -> bool:
+    """Whether a number was taken; it is raised if the call was refused for another reason than the number."""
+    if code == Code.REFUSED:
+        return False
+    if code != Code.OK:
+        raise Refused(code)
+    return True
