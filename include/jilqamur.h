@@ -683,6 +683,42 @@ uint32_t jilqamur_end_send_packet(jilqamur_end *end, size_t stream, uint64_t num
                                   const jilqamur_values *values, const uint8_t *mid, size_t mid_len,
                                   const uint8_t *payload, size_t payload_len);
 
+/* Copies the missing numbers of a receiving stream, in increasing order, to the front of len numbers, and writes their
+ * count, at most 1,023, into needed: JILQAMUR_OK; or JILQAMUR_TOO_SMALL, and the numbers are unchanged. Missing are those
+ * after the last unit's, or, before any unit, after the lowest packet that waits, that were not taken, below the
+ * greatest that was and within the replay window: what a generic NACK may ask for (RFC 4585 6.2.1). JILQAMUR_NOT_MADE
+ * without an end, JILQAMUR_NO_STREAM, or JILQAMUR_MEMORY. */
+uint32_t jilqamur_end_missing(jilqamur_end *end, size_t stream, uint64_t *numbers, size_t len, size_t *needed);
+
+/* JILQAMUR_OK if a number of a receiving stream is passed: a unit with this number or one above it was handed out, or a
+ * frame with it was refused, and a datagram of this number is of no use any more. JILQAMUR_NOTHING if it isn't.
+ * JILQAMUR_NOT_MADE without an end, JILQAMUR_NO_STREAM. */
+uint32_t jilqamur_end_is_passed(jilqamur_end *end, size_t stream, uint64_t number);
+
+/* Passes all numbers of a receiving stream up to this one: what waits of them is dropped, an open fragment is given up,
+ * and the frame after the number is next, so that hold-back protects it. So a stream begins with a key frame, goes on
+ * at once after a loss that nobody repairs, and gives back what it holds. A number that is passed already changes
+ * nothing. JILQAMUR_NOT_MADE without an end, JILQAMUR_NO_STREAM. */
+uint32_t jilqamur_end_pass_to(jilqamur_end *end, size_t stream, uint64_t number);
+
+/* Tells the number that the next datagram of a sending stream's samples gets. JILQAMUR_NOT_MADE without an end,
+ * JILQAMUR_NO_STREAM. */
+uint32_t jilqamur_end_next_number(jilqamur_end *end, size_t stream, uint64_t *next);
+
+/* Leaves numbers of a sending stream out: its samples never send those from its next number up to this one. A number
+ * that isn't above the next one changes nothing. So streams of one SSRC and several payload types are numbered as one
+ * (RFC 3550 5.1). JILQAMUR_NOT_MADE without an end, JILQAMUR_NO_STREAM. */
+uint32_t jilqamur_end_skip_to(jilqamur_end *end, size_t stream, uint64_t number);
+
+/* Closes a sending stream: what it holds is given back, and its SSRC can be opened again, with new numbers. The
+ * stream's own number isn't used again. JILQAMUR_NOT_MADE without an end, JILQAMUR_NO_STREAM. */
+uint32_t jilqamur_end_close_sender(jilqamur_end *end, size_t stream);
+
+/* Closes a receiving stream: what it holds is given back, and its SSRC can be opened again, as one that nothing came of.
+ * The stream's own number isn't used again, and its datagrams are JILQAMUR_FOREIGN from then on. JILQAMUR_NOT_MADE
+ * without an end, JILQAMUR_NO_STREAM. */
+uint32_t jilqamur_end_close_receiver(jilqamur_end *end, size_t stream);
+
 /* A handle of a forwarder, which numbers and times the packets of several sources as those of one stream: the packets
  * of a source keep their distances, and each piece of a source begins above the numbers that were given before.
  * Packets that come late are sent on where they belong, as long as the last 64 pieces are kept. Kept like the handle

@@ -236,6 +236,70 @@ static void pass(jilqamur_end *a, jilqamur_end *b)
     say("send", jilqamur_end_send_packet(a, 5, 500, 77, true, &told, JILQAMUR_TEXT("a"), sample, 3));
 }
 
+static void say_next(jilqamur_end *end)
+{
+    uint64_t next = 0;
+    check(jilqamur_end_next_number(end, 0, &next));
+    printf("next %" PRIu64 "\n", next);
+}
+
+static void say_missing(jilqamur_end *end, size_t room)
+{
+    static uint64_t numbers[1023];
+    size_t count = 0;
+    uint32_t answer = jilqamur_end_missing(end, 0, numbers, room, &count);
+    printf("missing %zu, too small %d", count, answer == JILQAMUR_TOO_SMALL);
+    for (size_t k = 0; k < count && k < 3; k++)
+        printf(" %" PRIu64, numbers[k]);
+    printf("\n");
+}
+
+static void say_passed(jilqamur_end *end, uint64_t number)
+{
+    printf("passed %" PRIu64 ": %d\n", number, jilqamur_end_is_passed(end, 0, number) == JILQAMUR_OK);
+}
+
+/* Numbers that a sender leaves out, and a receiver misses and passes. */
+static void numbers(jilqamur_end *a, jilqamur_end *b)
+{
+    static const uint8_t sample[] = {5, 6};
+    const jilqamur_values values = {0};
+    size_t count = 0, len = 0;
+    say_next(a);
+    check(jilqamur_end_skip_to(a, 0, 506));
+    say_next(a);
+    check(jilqamur_end_push_sample(a, 0, 5760, &values, JILQAMUR_TEXT(""), sample, 2, &count));
+    check(jilqamur_end_datagram(a, 0, bytes, sizeof bytes, &len));
+    say_received(b, bytes, len);
+    say_missing(b, 1023);
+    say_passed(b, 502);
+    check(jilqamur_end_pass_to(b, 0, 502));
+    say_passed(b, 502);
+    say_missing(b, 1023);
+    say_missing(b, 2);
+    say_poll(b, 0, false);
+    check(jilqamur_end_pass_to(b, 0, 505));
+    say_poll(b, 0, false);
+    say_passed(b, 507);
+}
+
+/* Streams that are closed, and calls at none. */
+static void close_streams(jilqamur_end *a, jilqamur_end *b)
+{
+    uint64_t number = 0;
+    size_t count = 0;
+    check(jilqamur_end_close_sender(a, 0));
+    check(jilqamur_end_close_receiver(b, 0));
+    say("close", jilqamur_end_close_sender(a, 0));
+    say("close", jilqamur_end_close_receiver(b, 0));
+    say("next", jilqamur_end_next_number(a, 0, &number));
+    say("skip", jilqamur_end_skip_to(a, 0, 1));
+    say("missing", jilqamur_end_missing(b, 0, &number, 1, &count));
+    say("passed", jilqamur_end_is_passed(b, 0, 1));
+    say("pass", jilqamur_end_pass_to(b, 0, 1));
+    say_poll(b, 0, false);
+}
+
 static void for_browser(jilqamur_end *end, uint8_t setup, const char *ufrag)
 {
     static uint8_t own[MOST];
@@ -328,6 +392,8 @@ void ends(void)
     send(&a, &b);
     drain(&a, &b);
     pass(&a, &b);
+    numbers(&a, &b);
+    close_streams(&a, &b);
     check(jilqamur_end_close(&a));
     check(jilqamur_end_close(&b));
     browsers();

@@ -94,6 +94,13 @@ static void of_ends(void)
     SAY(jilqamur_end_arrival(&end, datagram, 12, &size, &arrival, &values));
     SAY(jilqamur_end_take_number(&end, 0, 0, &number));
     SAY(jilqamur_end_send_packet(&end, 0, 0, 0, false, &values, JILQAMUR_TEXT(""), datagram, 12));
+    SAY(jilqamur_end_missing(&end, 0, &number, 1, &size));
+    SAY(jilqamur_end_is_passed(&end, 0, 0));
+    SAY(jilqamur_end_pass_to(&end, 0, 0));
+    SAY(jilqamur_end_next_number(&end, 0, &number));
+    SAY(jilqamur_end_skip_to(&end, 0, 0));
+    SAY(jilqamur_end_close_sender(&end, 0));
+    SAY(jilqamur_end_close_receiver(&end, 0));
 }
 
 static void open_all(void)

@@ -11,6 +11,8 @@ from .library import (ArrivalStruct, Owner, RemoteStruct, RowStruct, SectionStru
 from .streams import unit_of
 from .values import MIN_HELD, Row, Unit, Values, given, is_taken
 
+MOST_MISSING = 1023
+
 
 class Direction(Enum):
     """Which way media flows, as an end sees it: whether it sends, and whether it receives."""
@@ -314,3 +316,41 @@ class End(Owner):
         done(lib.end_send_packet(self._at, stream, number, timestamp, marker, byref(values.struct()), *text(mid or ""),
                                  *text(payload)))
         return fetched(lib.end_datagram, self._at, 0)
+
+    def missing(self, stream: int) -> list[int]:
+        """The missing numbers of a receiving stream, in increasing order, at most 1,023: what a generic NACK may ask for
+        (RFC 4585 6.2.1)."""
+        numbers, needed = (c_uint64 * MOST_MISSING)(), c_size_t()
+        done(lib.end_missing(self._at, stream, numbers, MOST_MISSING, byref(needed)))
+        return numbers[:needed.value]
+
+    def is_passed(self, stream: int, number: int) -> bool:
+        """Whether a datagram of this number is of no use to a receiving stream any more."""
+        code = lib.end_is_passed(self._at, stream, number)
+        if code == Code.NOTHING:
+            return False
+        done(code)
+        return True
+
+    def pass_to(self, stream: int, number: int) -> None:
+        """Passes all numbers of a receiving stream up to this one: what waits of them is dropped, and the frame after
+        the number is next."""
+        done(lib.end_pass_to(self._at, stream, number))
+
+    def next_number(self, stream: int) -> int:
+        """The number that the next datagram of a sending stream's samples gets."""
+        number = c_uint64()
+        done(lib.end_next_number(self._at, stream, byref(number)))
+        return number.value
+
+    def skip_to(self, stream: int, number: int) -> None:
+        """Leaves the numbers of a sending stream out from its next one up to this one."""
+        done(lib.end_skip_to(self._at, stream, number))
+
+    def close_sender(self, stream: int) -> None:
+        """Closes a sending stream; its SSRC can be opened again."""
+        done(lib.end_close_sender(self._at, stream))
+
+    def close_receiver(self, stream: int) -> None:
+        """Closes a receiving stream; its SSRC can be opened again."""
+        done(lib.end_close_receiver(self._at, stream))

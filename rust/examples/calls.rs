@@ -455,6 +455,53 @@ fn pass(a: &mut End, b: &mut End) -> Done {
     Ok(())
 }
 
+fn say_missing(end: &End, room: usize) -> Done {
+    let numbers = end.missing(0)?;
+    print!("missing {}, too small {}", numbers.len(), u8::from(room < numbers.len()));
+    for number in numbers.iter().take(3) {
+        print!(" {number}");
+    }
+    println!();
+    Ok(())
+}
+
+fn say_passed(end: &End, number: u64) -> Done {
+    println!("passed {number}: {}", u8::from(end.is_passed(0, number)?));
+    Ok(())
+}
+
+fn numbers(a: &mut End, b: &mut End) -> Done {
+    println!("next {}", a.next_number(0)?);
+    a.skip_to(0, 506)?;
+    println!("next {}", a.next_number(0)?);
+    let datagram = a.push_sample(0, 5760, &[5, 6], None)?.next().unwrap_or_default();
+    say_received(b, &datagram)?;
+    say_missing(b, 1023)?;
+    say_passed(b, 502)?;
+    b.pass_to(0, 502)?;
+    say_passed(b, 502)?;
+    say_missing(b, 1023)?;
+    say_missing(b, 2)?;
+    say_poll(b, 0, false);
+    b.pass_to(0, 505)?;
+    say_poll(b, 0, false);
+    say_passed(b, 507)
+}
+
+fn close_streams(a: &mut End, b: &mut End) -> Done {
+    a.close_sender(0)?;
+    b.close_receiver(0)?;
+    say("close", &a.close_sender(0));
+    say("close", &b.close_receiver(0));
+    say("next", &a.next_number(0));
+    say("skip", &a.skip_to(0, 1));
+    say("missing", &b.missing(0));
+    say("passed", &b.is_passed(0, 1));
+    say("pass", &b.pass_to(0, 1));
+    say_poll(b, 0, false);
+    Ok(())
+}
+
 fn for_browser(end: &mut End, text: &str, setup: Setup, ufrag: &str) -> Option<String> {
     let password = "passwordpasswordpassword";
     let transport = Transport { ufrag, password, hash: "sha-256", digest: &[0xab, 0xcd, 0xef], setup, is_lite: true };
@@ -524,6 +571,8 @@ fn ends() -> Done {
     send(&mut a, &mut b)?;
     drain(&mut a, &mut b)?;
     pass(&mut a, &mut b)?;
+    numbers(&mut a, &mut b)?;
+    close_streams(&mut a, &mut b)?;
     browsers()?;
     default_rows()
 }

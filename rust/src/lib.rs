@@ -18,6 +18,7 @@ mod ends;
 mod error;
 mod exchanges;
 mod forwarding;
+mod numbers;
 mod params;
 mod payloads;
 mod streams;

@@ -157,6 +157,19 @@ unsafe extern "C" {
         payload: *const u8,
         payload_len: usize,
     ) -> u32;
+    pub(crate) fn jilqamur_end_missing(
+        end: *mut RawHandle,
+        stream: usize,
+        numbers: *mut u64,
+        len: usize,
+        needed: *mut usize,
+    ) -> u32;
+    pub(crate) fn jilqamur_end_is_passed(end: *mut RawHandle, stream: usize, number: u64) -> u32;
+    pub(crate) fn jilqamur_end_pass_to(end: *mut RawHandle, stream: usize, number: u64) -> u32;
+    pub(crate) fn jilqamur_end_next_number(end: *mut RawHandle, stream: usize, next: *mut u64) -> u32;
+    pub(crate) fn jilqamur_end_skip_to(end: *mut RawHandle, stream: usize, number: u64) -> u32;
+    pub(crate) fn jilqamur_end_close_sender(end: *mut RawHandle, stream: usize) -> u32;
+    pub(crate) fn jilqamur_end_close_receiver(end: *mut RawHandle, stream: usize) -> u32;
     pub(crate) fn jilqamur_forwarder_open(forwarder: *mut RawHandle, first: u64) -> u32;
     pub(crate) fn jilqamur_forwarder_close(forwarder: *mut RawHandle) -> u32;
     pub(crate) fn jilqamur_forwarder_switch(

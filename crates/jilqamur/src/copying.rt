@@ -19,6 +19,18 @@ pub fn copy_out(bytes: &[u8], buffer: &mut [u8], needed: &mut usize) -> u32
     codes::OK
 }
 
+/// The same of numbers.
+pub fn copy_numbers(numbers: &[u64], buffer: &mut [u64], needed: &mut usize) -> u32
+    ensures { IsCopied numbers.now buffer.old result needed.new buffer.new }
+{
+    *needed = numbers.len();
+    if buffer.len() < *needed {
+        return codes::TOO_SMALL;
+    }
+    buffer[..*needed].copy_from_slice(numbers);
+    codes::OK
+}
+
 /// The text that bytes are, where they are UTF-8.
 #[tactic(auto, using(payload_core_base::proofs::Texts::text, payload_core_base::proofs::Texts::no_text))]
 pub fn text_in(bytes: &[u8]) -> Option<&str>

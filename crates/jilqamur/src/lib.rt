@@ -4,6 +4,7 @@
 mod agreed;
 mod answers;
 mod browsers;
+mod closing;
 pub mod codes;
 mod copying;
 mod depacketizer;
@@ -22,6 +23,7 @@ mod header_values;
 mod headers;
 mod held_end;
 mod inbox;
+mod numbers;
 mod object;
 mod outbox;
 mod packet_inbox;
