@@ -229,6 +229,15 @@ static bool sends(jilqamur_end *end, size_t stream)
     return true;
 }
 
+static void misses(jilqamur_end *end)
+{
+    uint64_t numbers[4];
+    size_t needed = 0;
+    ASK("missing", jilqamur_end_missing(end, 0, numbers, 4, &needed));
+    for (size_t k = 0; k < needed && k < 4; k++)
+        say("%u\n", (unsigned)numbers[k]);
+}
+
 static void hears(jilqamur_end *end)
 {
     uint8_t datagram[] = {0x80, 111, 0, 7, 0, 0, 0, 0, 0, 0, 0, 44, 1};
@@ -241,6 +250,7 @@ static void hears(jilqamur_end *end)
         ASK("receive", jilqamur_end_receive(end, datagram, sizeof datagram, &stream, &number));
         say("%zu %u\n", stream, (unsigned)number);
     }
+    misses(end);
     ASK("poll", jilqamur_end_poll(end, 0));
     say("unit: %u\n", jilqamur_end_unit(end, bytes, sizeof bytes, &needed, &unit));
     say_bytes(bytes, needed);

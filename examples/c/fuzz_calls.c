@@ -604,6 +604,40 @@ static void of_receiving(jilqamur_end *end)
     }
 }
 
+static void of_numbers(jilqamur_end *end)
+{
+    size_t stream = below(9) ? below(3) : below(99), count = 0;
+    size_t len = flip() ? 1023 : below(9);
+    uint64_t number = 0, *missing = (uint64_t *)(void *)room(len * sizeof *missing);
+    switch (below(10)) {
+    case 0:
+    case 1:
+    case 2:
+        if (CALL(end_missing, end, stream, missing, len, &count) == JILQAMUR_OK)
+            must(count <= len && count <= 1023, "more numbers than there is room");
+        break;
+    case 3:
+    case 4:
+        CALL(end_is_passed, end, stream, some_number());
+        break;
+    case 5:
+        CALL(end_pass_to, end, stream, below(9) ? below(40) : some_number());
+        break;
+    case 6:
+    case 7:
+        CALL(end_next_number, end, stream, &number);
+        break;
+    case 8:
+        CALL(end_skip_to, end, stream, below(9) ? number + below(60) : some_number());
+        break;
+    default:
+        if (!below(20))
+            CALL(end_close_sender, end, stream);
+        if (!below(20))
+            CALL(end_close_receiver, end, stream);
+    }
+}
+
 /* Two ends that agree, so that their streams have something to do: the rest is left to chance. */
 static void agree(void)
 {
@@ -697,6 +731,9 @@ static void of_ends(void)
     case 11:
         of_sending(end);
         break;
+    case 12:
+        of_numbers(end);
+        break;
     default:
         of_receiving(end);
     }
@@ -742,5 +779,5 @@ int main(int argc, char **argv)
             fprintf(stderr, "fuzz_calls: %s never answered that it was done\n", calls[at].name);
     }
     printf("%ld steps, %ld calls, each done: %s\n", count, made, made == done ? "yes" : "no");
-    return made == 72 && made == done ? 0 : 1;
+    return made == 79 && made == done ? 0 : 1;
 }

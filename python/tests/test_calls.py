@@ -203,6 +203,31 @@ class Forwarding(unittest.TestCase):
         self.assertEqual(raised.exception.code, Code.NO_PAYLOAD)
 
 
+class Numbers(unittest.TestCase):
+    def test_missing_numbers_are_told_and_passed(self) -> None:
+        a, b = agreed()
+        self.assertEqual((b.missing(0), b.is_passed(0, 100)), ([], False))
+        [first] = a.push_sample(0, 960, b"abc")
+        self.assertEqual(b.receive(first), (0, 100))
+        self.assertIsNotNone(b.poll(0))
+        self.assertEqual((b.is_passed(0, 100), b.is_passed(0, 101), a.next_number(0)), (True, False, 101))
+        a.skip_to(0, 104)
+        [later] = a.push_sample(0, 1920, b"def")
+        self.assertEqual((b.receive(later), b.missing(0)), ((0, 104), [101, 102, 103]))
+        self.assertIsNone(b.poll(0))
+        b.pass_to(0, 103)
+        self.assertEqual((b.missing(0), b.poll(0).bytes), ([], b"def"))
+
+    def test_a_closed_stream_is_none(self) -> None:
+        a, b = agreed()
+        a.close_sender(0)
+        b.close_receiver(0)
+        for call in (a.next_number, a.close_sender, b.missing, b.close_receiver, b.poll):
+            with self.assertRaises(Refused) as raised:
+                call(0)
+            self.assertEqual(raised.exception.code, Code.NO_STREAM)
+
+
 class Threads(unittest.TestCase):
     def test_ends_of_many_threads_share_nothing(self) -> None:
         heard: list[bytes] = []
