@@ -1,0 +1,3 @@
+pub mod FormatLaw
+pub mod UnitLaw
+pub mod SizeLaw

@@ -1,0 +1,3 @@
+pub mod Packets
+pub mod Layers
+pub mod Laws
