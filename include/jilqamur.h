@@ -204,6 +204,24 @@ uint32_t jilqamur_header_write(const jilqamur_header *header, uint8_t *buffer, s
  * header says that there is some: JILQAMUR_OK, or JILQAMUR_DAMAGED, and unpadded is unchanged. */
 uint32_t jilqamur_payload_unpad(bool has_padding, const uint8_t *payload, size_t len, size_t *unpadded);
 
+/* What a packet says of its frame. */
+typedef struct jilqamur_packet_info {
+    bool is_head;            /* whether a frame can begin with it; a NAL unit begins with it in H.26x */
+    bool is_tail;            /* whether a frame ends with it */
+    bool shows_key_frame;    /* whether it shows that its frame is a key frame; audio never does */
+    bool has_spatial_layer;  /* whether it tells its spatial layer */
+    uint8_t spatial_layer;   /* the spatial layer, from 0; 0 where it isn't told */
+    bool has_temporal_layer; /* whether it tells its temporal layer */
+    uint8_t temporal_layer;  /* the temporal layer, from 0; 0 where it isn't told */
+} jilqamur_packet_info;
+
+/* Tells what a packet of the codec of this name, with this payload of len bytes without padding and this marker bit,
+ * says of its frame: JILQAMUR_OK. VP8 and AV1 show a key frame in its first packet, VP9 in each one, H.264, H.265 and
+ * H.266 in those that show a slice of the picture. JILQAMUR_NOT_TEXT for a name that isn't UTF-8, JILQAMUR_OUT_OF_RANGE
+ * for one of no codec with a payload format, and nothing is told. */
+uint32_t jilqamur_payload_info(const uint8_t *codec, size_t codec_len, const uint8_t *payload, size_t len, bool marker,
+                               jilqamur_packet_info *info);
+
 /* The number nearest to the previous one with these low 16 bits, modulo 2^64. */
 uint64_t jilqamur_number_widen(uint64_t previous, uint16_t low);
 
@@ -684,8 +702,8 @@ uint32_t jilqamur_end_send_packet(jilqamur_end *end, size_t stream, uint64_t num
                                   const uint8_t *payload, size_t payload_len);
 
 /* Copies the missing numbers of a receiving stream, in increasing order, to the front of len numbers, and writes their
- * count, at most 1,023, into needed: JILQAMUR_OK; or JILQAMUR_TOO_SMALL, and the numbers are unchanged. Missing are those
- * after the last unit's, or, before any unit, after the lowest packet that waits, that were not taken, below the
+ * count, at most 1,023, into needed: JILQAMUR_OK; or JILQAMUR_TOO_SMALL, and the numbers are unchanged. Missing are
+ * those after the last unit's, or, before any unit, after the lowest packet that waits, that were not taken, below the
  * greatest that was and within the replay window: what a generic NACK may ask for (RFC 4585 6.2.1). JILQAMUR_NOT_MADE
  * without an end, JILQAMUR_NO_STREAM, or JILQAMUR_MEMORY. */
 uint32_t jilqamur_end_missing(jilqamur_end *end, size_t stream, uint64_t *numbers, size_t len, size_t *needed);
@@ -714,8 +732,8 @@ uint32_t jilqamur_end_skip_to(jilqamur_end *end, size_t stream, uint64_t number)
  * stream's own number isn't used again. JILQAMUR_NOT_MADE without an end, JILQAMUR_NO_STREAM. */
 uint32_t jilqamur_end_close_sender(jilqamur_end *end, size_t stream);
 
-/* Closes a receiving stream: what it holds is given back, and its SSRC can be opened again, as one that nothing came of.
- * The stream's own number isn't used again, and its datagrams are JILQAMUR_FOREIGN from then on. JILQAMUR_NOT_MADE
+/* Closes a receiving stream: what it holds is given back, and its SSRC can be opened again, as one that nothing came
+ * of. The stream's own number isn't used again, and its datagrams are JILQAMUR_FOREIGN from then on. JILQAMUR_NOT_MADE
  * without an end, JILQAMUR_NO_STREAM. */
 uint32_t jilqamur_end_close_receiver(jilqamur_end *end, size_t stream);
 

@@ -3,8 +3,8 @@
 from the layouts of the standards alone, beside rows that were put together by hand.
 
 Run it with `python3 docs/vectors/lines.py`. A row is a line and its answer; a row without one answers itself. The
-packers are `h26x.py`, `av1.py` and `payloads.py`, headers and tables stand in `headers.py`, rows by hand in `rows.py`,
-`parts.py` and `wire.py`, the units of encoders in `*_units.txt`.
+packers are `h26x.py`, `av1.py` and `payloads.py`; `layers.py` draws the fields of single packets; headers and tables
+are in `headers.py`, rows by hand in `rows.py`, `parts.py` and `wire.py`, the units of encoders in `*_units.txt`.
 """
 
 from pathlib import Path
@@ -12,6 +12,7 @@ from pathlib import Path
 import av1
 import h26x
 import headers
+import layers
 import payloads
 from parts import BOXED, FIELDS, WHOLES
 from rows import BY_HAND, told
@@ -89,5 +90,5 @@ def write(crate, rows):
 
 
 if __name__ == "__main__":
-    write("payload_lines", [*of_packets(), *BOXED, *FIELDS, *headers.rows()])
+    write("payload_lines", [*of_packets(), *layers.rows(), *BOXED, *FIELDS, *headers.rows()])
     write("wire_lines", [*HEADERS, *NUMBERS])

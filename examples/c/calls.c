@@ -80,6 +80,25 @@ static void names(void)
     say_names(plain, sizeof plain, &ids);
 }
 
+static void say_info(const char *codec, const uint8_t *payload, size_t len, bool marker)
+{
+    jilqamur_packet_info info = {0};
+    say("info", jilqamur_payload_info((const uint8_t *)codec, strlen(codec), payload, len, marker, &info));
+    printf("head %d, tail %d, key %d, spatial %d, temporal %d\n", info.is_head, info.is_tail, info.shows_key_frame,
+           info.has_spatial_layer ? info.spatial_layer : -1, info.has_temporal_layer ? info.temporal_layer : -1);
+}
+
+/* VP8's TID 2 of a key frame, VP9's TID 5 and SID 1, H.265's layer 3 and TID 1 of a fragment that goes on. */
+static void infos(void)
+{
+    static const uint8_t vp8[] = {0x90, 0x20, 0x80, 0x10}, vp9[] = {0x28, 0xa3, 0, 1}, h265[] = {0x62, 0x1a, 0x13, 7};
+    say_info("VP8", vp8, sizeof vp8, true);
+    say_info("VP9", vp9, sizeof vp9, false);
+    say_info("H265", h265, sizeof h265, true);
+    say_info("opus", vp8, sizeof vp8, false);
+    say_info("rtx", vp8, sizeof vp8, false);
+}
+
 static void window(void)
 {
     static const uint8_t numbers[][2] = {{0xff, 0xff}, {0, 1}, {0xff, 0xff}};
@@ -260,6 +279,7 @@ int main(void)
 {
     headers();
     names();
+    infos();
     window();
     packetizers();
     depacketizers();

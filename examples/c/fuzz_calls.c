@@ -242,6 +242,7 @@ static void of_headers(void)
     jilqamur_header header;
     jilqamur_values values;
     jilqamur_names names;
+    jilqamur_packet_info info;
     size_t len = 0;
     jilqamur_extension_ids ids = {.audio_level = (uint8_t)below(18), .mid = (uint8_t)below(18), .rid = (uint8_t)below(17),
                                   .repaired_rid = (uint8_t)below(17), .capture_time = (uint8_t)below(17),
@@ -251,6 +252,9 @@ static void of_headers(void)
         view rest = copy_of(d.at + header.header_len, d.len - header.header_len);
         if (CALL(payload_unpad, header.has_padding, rest.at, rest.len, &len) == JILQAMUR_OK)
             must(len <= rest.len, "a payload longer than its datagram");
+        view codec = some_codec();
+        if (CALL(payload_info, codec.at, codec.len, rest.at, rest.len, flip(), &info) == JILQAMUR_OK)
+            must(info.spatial_layer < 64 && info.temporal_layer < 8, "a layer that no codec has");
         header.payload_type ^= (uint8_t)(below(8) ? 0 : 128);
         copied(CALL(header_write, &header, buffer.at, buffer.len, &len), buffer, &len);
     }
@@ -779,5 +783,5 @@ int main(int argc, char **argv)
             fprintf(stderr, "fuzz_calls: %s never answered that it was done\n", calls[at].name);
     }
     printf("%ld steps, %ld calls, each done: %s\n", count, made, made == done ? "yes" : "no");
-    return made == 79 && made == done ? 0 : 1;
+    return made == 80 && made == done ? 0 : 1;
 }

@@ -16,14 +16,14 @@ from .codes import Code, Refused
 from .ends import (AgreedSection, Arrival, Direction, End, Remote, Section, Setup, Taken, Verdict, Wish)
 from .library import ExtensionIds, Header
 from .streams import Depacketizer, Forwarder, Packet, Packetizer, Placed, Receiver, Sender, Window
-from .values import (EXTENSIONS, MAX_HELD, MIN_HELD, Event, Format, Names, Row, Unit, Values, payload_of, read_header,
-                     read_values, widen, write_header)
+from .values import (EXTENSIONS, MAX_HELD, MIN_HELD, Event, Format, Names, PacketInfo, Row, Unit, Values, packet_info,
+                     payload_of, read_header, read_values, widen, write_header)
 
 __version__ = "0.9.0"
 
 __all__ = [
     "AgreedSection", "Arrival", "Code", "Depacketizer", "Direction", "EXTENSIONS", "End", "Event", "ExtensionIds",
-    "Format", "Forwarder", "Header", "MAX_HELD", "MIN_HELD", "Names", "Packet", "Packetizer", "Placed", "Receiver",
-    "Refused", "Remote", "Row", "Section", "Sender", "Setup", "Taken", "Unit", "Values", "Verdict", "Window", "Wish",
-    "payload_of", "read_header", "read_values", "widen", "write_header",
+    "Format", "Forwarder", "Header", "MAX_HELD", "MIN_HELD", "Names", "Packet", "PacketInfo", "Packetizer", "Placed",
+    "Receiver", "Refused", "Remote", "Row", "Section", "Sender", "Setup", "Taken", "Unit", "Values", "Verdict", "Window", "Wish",
+    "packet_info", "payload_of", "read_header", "read_values", "widen", "write_header",
 ]

@@ -100,6 +100,11 @@ class NamesStruct(Struct):
                 ("repaired_rid_len", c_uint8), ("repaired_rid", c_uint8 * 8)]
 
 
+class PacketInfoStruct(Struct):
+    _fields_ = [("is_head", c_bool), ("is_tail", c_bool), ("shows_key_frame", c_bool), ("has_spatial_layer", c_bool),
+                ("spatial_layer", c_uint8), ("has_temporal_layer", c_bool), ("temporal_layer", c_uint8)]
+
+
 class ArrivalStruct(Struct):
     _fields_ = [("low", c_uint16), ("timestamp", c_uint32), ("marker", c_bool), ("start", c_size_t), ("end", c_size_t)]
 
@@ -125,6 +130,7 @@ CALLS: dict[str, list[Any]] = {
     "header_write": [POINTER(Header), *OUT],
     "header_values": [*TEXT, POINTER(ExtensionIds), POINTER(ValuesStruct), POINTER(NamesStruct)],
     "payload_unpad": [c_bool, *TEXT, SIZE],
+    "payload_info": [*TEXT, *TEXT, c_bool, POINTER(PacketInfoStruct)],
     "number_widen": [c_uint64, c_uint16],
     "window_open": [HANDLE],
     "window_receive": [HANDLE, *TEXT, NUMBER],

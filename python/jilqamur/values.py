@@ -4,8 +4,8 @@ from ctypes import byref
 from dataclasses import dataclass, fields
 
 from .codes import Code, Refused, done
-from .library import (ExtensionIds, FormatStruct, Header, NamesStruct, RowStruct, UnitStruct, ValuesStruct, c_size_t,
-                      fetched, lib, text)
+from .library import (ExtensionIds, FormatStruct, Header, NamesStruct, PacketInfoStruct, RowStruct, UnitStruct,
+                      ValuesStruct, c_size_t, fetched, lib, text)
 
 MIN_HELD = 4096
 """The least number of packets that a stream may be opened to hold at most."""
@@ -171,6 +171,28 @@ def payload_of(header: Header, behind: bytes) -> bytes:
     length = c_size_t()
     done(lib.payload_unpad(header.has_padding, *text(behind), byref(length)))
     return behind[:length.value]
+
+
+@dataclass(frozen=True)
+class PacketInfo:
+    """What a packet says of its frame: whether a frame can begin and end with it, whether it shows that its frame is a
+    key frame, and its layers, from 0, where they are told."""
+
+    is_head: bool
+    is_tail: bool
+    shows_key_frame: bool
+    spatial_layer: int | None
+    temporal_layer: int | None
+
+
+def packet_info(codec: str, payload: bytes, marker: bool) -> PacketInfo:
+    """What a packet of the codec of this name, with this payload and marker bit, says of its frame. `Refused`,
+    OUT_OF_RANGE, for a name of no codec with a payload format."""
+    told = PacketInfoStruct()
+    done(lib.payload_info(*text(codec), *text(payload), marker, byref(told)))
+    return PacketInfo(told.is_head, told.is_tail, told.shows_key_frame,
+                      told.spatial_layer if told.has_spatial_layer else None,
+                      told.temporal_layer if told.has_temporal_layer else None)
 
 
 def widen(previous: int, low: int) -> int:

@@ -5,8 +5,8 @@ import unittest
 from pathlib import Path
 
 from jilqamur import (EXTENSIONS, Arrival, Code, Depacketizer, Direction, End, Event, ExtensionIds, Format, Forwarder,
-                      Header, Packetizer, Placed, Receiver, Refused, Row, Section, Sender, Setup, Taken, Values,
-                      Verdict, Window, Wish, payload_of, read_header, read_values, widen, write_header)
+                      Header, PacketInfo, Packetizer, Placed, Receiver, Refused, Row, Section, Sender, Setup, Taken, Values,
+                      Verdict, Window, Wish, packet_info, payload_of, read_header, read_values, widen, write_header)
 
 PLAIN = bytes([0x90, 0xe0, 0, 7, 0, 0, 3, 0xc0, 0, 0, 0, 44, 0xbe, 0xde, 0, 2, 0x10, 0x9e, 0x31, 97, 118, 0x50, 104, 0,
                1, 2, 3, 4])
@@ -37,6 +37,13 @@ class Headers(unittest.TestCase):
         written = write_header(Header(has_padding=True, payload_type=5, sequence_number=258, timestamp=3, ssrc=9))
         self.assertEqual(written.hex(), "a00501020000000300000009")
         self.assertEqual(payload_of(Header(has_padding=True), bytes([9, 8, 0, 0, 3])), bytes([9, 8]))
+
+    def test_a_packet_tells_of_its_frame(self) -> None:
+        self.assertEqual(packet_info("VP8", bytes([0x90, 0x20, 0x80, 0x10]), True), PacketInfo(True, True, True, None, 2))
+        self.assertEqual(packet_info("VP9", bytes([0x28, 0xa3, 0, 1]), False), PacketInfo(True, False, False, 1, 5))
+        with self.assertRaises(Refused) as raised:
+            packet_info("rtx", b"1", False)
+        self.assertEqual(raised.exception.code, Code.OUT_OF_RANGE)
 
     def test_refusals_have_codes(self) -> None:
         for call, code in ((lambda: read_header(b"x"), Code.UNREADABLE),

@@ -3,7 +3,7 @@
 
 use jilqamur::{
     Depacketizer, Direction, End, EndError, ExtensionIds, ForwardedPacket, Format, Forwarder, Header, Kind, MIN_HELD,
-    Packetizer, PacketizerParams, Received, Receiver, Row, Section, Sender, SenderParams, Setup, StreamParams,
+    PacketInfo, Packetizer, PacketizerParams, Received, Receiver, Row, Section, Sender, SenderParams, Setup, StreamParams,
     Transport, Unit, Values, Window, Wish,
 };
 use std::error::Error;
@@ -136,6 +136,21 @@ fn names() {
     say_names(&PLAIN[..11], ids);
     ids.mid = 17;
     say_names(&PLAIN, ids);
+}
+
+fn infos() {
+    let vp8: &[u8] = &[0x90, 0x20, 0x80, 0x10];
+    let (vp9, h265): (&[u8], &[u8]) = (&[0x28, 0xa3, 0, 1], &[0x62, 0x1a, 0x13, 7]);
+    for (codec, payload, marker) in
+        [("VP8", vp8, true), ("VP9", vp9, false), ("H265", h265, true), ("opus", vp8, false), ("rtx", vp8, false)]
+    {
+        let info = PacketInfo::of(codec, payload, marker);
+        say("info", &info);
+        let flags = info.as_ref().map_or([false; 3], |i| [i.is_head, i.is_tail, i.shows_key_frame]).map(u8::from);
+        let layers = info.map_or([None; 2], |i| [i.spatial_layer, i.temporal_layer]).map(or_none);
+        let [head, tail, key] = flags;
+        println!("head {head}, tail {tail}, key {key}, spatial {}, temporal {}", layers[0], layers[1]);
+    }
 }
 
 fn window() -> Done {
@@ -580,6 +595,7 @@ fn ends() -> Done {
 fn main() -> Done {
     headers();
     names();
+    infos();
     window()?;
     packetizers()?;
     depacketizers()?;

@@ -19,6 +19,7 @@ mod error;
 mod exchanges;
 mod forwarding;
 mod numbers;
+mod packet_info;
 mod params;
 mod payloads;
 mod streams;
@@ -30,6 +31,7 @@ pub use builder::Builder;
 pub use ends::{Datagrams, End};
 pub use error::EndError;
 pub use forwarding::{Arrival, Forwarder, ForwardedPacket, Placed};
+pub use packet_info::PacketInfo;
 pub use params::{
     AgreedSection, Direction, Kind, Received, Row, Section, StreamParams, TelephoneEvent, Unit,
 };

@@ -102,6 +102,19 @@ pub(crate) struct Values {
     pub(crate) clock_offset: i64,
 }
 
+/// What a packet says of its frame.
+#[repr(C)]
+#[derive(Default)]
+pub(crate) struct PacketInfo {
+    pub(crate) is_head: bool,
+    pub(crate) is_tail: bool,
+    pub(crate) shows_key_frame: bool,
+    pub(crate) has_spatial_layer: bool,
+    pub(crate) spatial_layer: u8,
+    pub(crate) has_temporal_layer: bool,
+    pub(crate) temporal_layer: u8,
+}
+
 /// How a datagram arrives at a receiving stream.
 #[repr(C)]
 #[derive(Default)]
@@ -208,6 +221,14 @@ unsafe extern "C" {
         payload: *const u8,
         len: usize,
         unpadded: *mut usize,
+    ) -> u32;
+    pub(crate) fn jilqamur_payload_info(
+        codec: *const u8,
+        codec_len: usize,
+        payload: *const u8,
+        len: usize,
+        marker: bool,
+        info: *mut PacketInfo,
     ) -> u32;
     pub(crate) fn jilqamur_number_widen(previous: u64, low: u16) -> u64;
     pub(crate) fn jilqamur_window_open(window: *mut RawHandle) -> u32;

@@ -19,10 +19,12 @@ pub mod HeldEnds
 pub mod Inboxes
 pub mod Lending
 pub mod Making
+pub mod Numbers
 pub mod Objects
 pub mod Outboxes
 pub mod Owned
 pub mod PacketInboxes
+pub mod PacketInfos
 pub mod PacketOutboxes
 pub mod Params
 pub mod Passing

@@ -32,6 +32,7 @@ mod packetizer;
 mod params;
 mod parts;
 mod passing;
+mod payload_info;
 mod payload_unit;
 mod place;
 mod receivers;

@@ -1,6 +1,7 @@
 //! The commands.
 
 use crate::formats::{Formats, take_up};
+use crate::info::info;
 use crate::profiles::{idc, level, profile};
 use crate::samples::{head, keyframe, pack, pushed, read, short_packets, unit};
 use crate::units::{header, shows, units};
@@ -61,6 +62,7 @@ fn of_format(line: &mut CommandLine<'_>, formats: &mut Formats, command: &str) {
         "short" => short_packets(line, &formats.format),
         "head" => head(line, &formats.format),
         "keyframe" => keyframe(line, formats.format.codec),
+        "info" => info(line, formats.format.codec),
         _ => line.refuse(format_args!("no command {command}")),
     }
 }

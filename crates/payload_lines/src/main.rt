@@ -7,6 +7,7 @@ mod boxed;
 mod commands;
 mod events;
 mod formats;
+mod info;
 mod profiles;
 mod redundancy;
 mod samples;
