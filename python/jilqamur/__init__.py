@@ -24,6 +24,6 @@ __version__ = "0.9.0"
 __all__ = [
     "AgreedSection", "Arrival", "Code", "Depacketizer", "Direction", "EXTENSIONS", "End", "Event", "ExtensionIds",
     "Format", "Forwarder", "Header", "MAX_HELD", "MIN_HELD", "Names", "Packet", "PacketInfo", "Packetizer", "Placed",
-    "Receiver", "Refused", "Remote", "Row", "Section", "Sender", "Setup", "Taken", "Unit", "Values", "Verdict", "Window", "Wish",
-    "packet_info", "payload_of", "read_header", "read_values", "widen", "write_header",
+    "Receiver", "Refused", "Remote", "Row", "Section", "Sender", "Setup", "Taken", "Unit", "Values", "Verdict", "Window",
+    "Wish", "packet_info", "payload_of", "read_header", "read_values", "widen", "write_header",
 ]

@@ -318,8 +318,8 @@ class End(Owner):
         return fetched(lib.end_datagram, self._at, 0)
 
     def missing(self, stream: int) -> list[int]:
-        """The missing numbers of a receiving stream, in increasing order, at most 1,023: what a generic NACK may ask for
-        (RFC 4585 6.2.1)."""
+        """The missing numbers of a receiving stream, in increasing order, at most 1,023: what a generic NACK may ask
+        for (RFC 4585 6.2.1)."""
         numbers, needed = (c_uint64 * MOST_MISSING)(), c_size_t()
         done(lib.end_missing(self._at, stream, numbers, MOST_MISSING, byref(needed)))
         return numbers[:needed.value]

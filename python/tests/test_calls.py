@@ -5,8 +5,9 @@ import unittest
 from pathlib import Path
 
 from jilqamur import (EXTENSIONS, Arrival, Code, Depacketizer, Direction, End, Event, ExtensionIds, Format, Forwarder,
-                      Header, PacketInfo, Packetizer, Placed, Receiver, Refused, Row, Section, Sender, Setup, Taken, Values,
-                      Verdict, Window, Wish, packet_info, payload_of, read_header, read_values, widen, write_header)
+                      Header, PacketInfo, Packetizer, Placed, Receiver, Refused, Row, Section, Sender, Setup, Taken,
+                      Values, Verdict, Window, Wish, packet_info, payload_of, read_header, read_values, widen,
+                      write_header)
 
 PLAIN = bytes([0x90, 0xe0, 0, 7, 0, 0, 3, 0xc0, 0, 0, 0, 44, 0xbe, 0xde, 0, 2, 0x10, 0x9e, 0x31, 97, 118, 0x50, 104, 0,
                1, 2, 3, 4])
@@ -39,7 +40,8 @@ class Headers(unittest.TestCase):
         self.assertEqual(payload_of(Header(has_padding=True), bytes([9, 8, 0, 0, 3])), bytes([9, 8]))
 
     def test_a_packet_tells_of_its_frame(self) -> None:
-        self.assertEqual(packet_info("VP8", bytes([0x90, 0x20, 0x80, 0x10]), True), PacketInfo(True, True, True, None, 2))
+        vp8 = packet_info("VP8", bytes([0x90, 0x20, 0x80, 0x10]), True)
+        self.assertEqual(vp8, PacketInfo(True, True, True, None, 2))
         self.assertEqual(packet_info("VP9", bytes([0x28, 0xa3, 0, 1]), False), PacketInfo(True, False, False, 1, 5))
         with self.assertRaises(Refused) as raised:
             packet_info("rtx", b"1", False)

@@ -3,8 +3,8 @@
 
 use jilqamur::{
     Depacketizer, Direction, End, EndError, ExtensionIds, ForwardedPacket, Format, Forwarder, Header, Kind, MIN_HELD,
-    PacketInfo, Packetizer, PacketizerParams, Received, Receiver, Row, Section, Sender, SenderParams, Setup, StreamParams,
-    Transport, Unit, Values, Window, Wish,
+    PacketInfo, Packetizer, PacketizerParams, Received, Receiver, Row, Section, Sender, SenderParams, Setup,
+    StreamParams, Transport, Unit, Values, Window, Wish,
 };
 use std::error::Error;
 use std::fmt::Display;

@@ -11,8 +11,8 @@ pub struct PacketInfo {
     pub is_head: bool,
     /// Whether a frame ends with it.
     pub is_tail: bool,
-    /// Whether it shows that its frame is a key frame: of VP8 and AV1 its first packet, of VP9 each one, of H.264, H.265
-    /// and H.266 those that show a slice of the picture. Audio has no key frames.
+    /// Whether it shows that its frame is a key frame: of VP8 and AV1 its first packet, of VP9 each one, of H.264,
+    /// H.265 and H.266 those that show a slice of the picture. Audio has no key frames.
     pub shows_key_frame: bool,
     /// The spatial layer, from 0, if it is told.
     pub spatial_layer: Option<u8>,
