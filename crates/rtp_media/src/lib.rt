@@ -4,11 +4,12 @@
 #![tactic(auto)]
 
 pub use media_types::{Codec, MediaKind};
+pub use packet_info::{Layers, PacketInfo, packet_info, packet_info_law};
 pub use payload_core_base::{CodecExtra, PacketError};
 pub use payload_core_buffer::{MAX_HELD, MIN_HELD, Unit, may_hold};
 pub use rtp_media_browsers::{
     BrowserError, Gathering, Identity, NamedWish, Place, Plan, Remote, Said, Target, Track,
-    Transport, Wish, WishError, answer_for_end, following_law, for_browser, for_end,
+    Transport, Wish, WishError, answer_for_end, end_text_law, following_law, for_browser, for_end,
     map_for_browsers, return_law, rows_for_browsers, sections_for, wishes_for,
 };
 pub use rtp_media_ends::{

@@ -11,3 +11,6 @@ pub mod Returning
 pub mod SessionBack
 pub mod Steps
 pub mod Whole
+pub mod RoleLaws
+pub mod OrderLaw
+pub mod EndTextLaw

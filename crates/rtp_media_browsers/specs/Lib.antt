@@ -15,3 +15,4 @@ pub mod Refusals
 pub mod Remotes
 pub mod Tidied
 pub mod Wanted
+pub mod StandardLaws

@@ -4,6 +4,7 @@ ghost use Rattle.std.specs.Prelude.{List};
 ghost use Rattle.sdp_formats_data.specs.declared.media.MediaLine.{MediaLine};
 ghost use Rattle.rtp_media_browsers.specs.Laws.{AreWanted, ComesBack, EachInItsPlace, GoesOn, IsHalted, LinesStay};
 ghost use Rattle.rtp_media_browsers.specs.Laws.{NothingChanges, SectionsComeBack, TakenAreRejected};
+ghost use Rattle.rtp_media_browsers.specs.StandardLaws.{EndsWriteEndTexts, OrdersTypes, RolesFit, TellsByLevels};
 ghost use Rattle.rtp_media_browsers.specs.declared.plan.Plan.{Plan};
 ghost use Rattle.rtp_media_browsers.specs.declared.transport.Transport.{Transport};
 ghost use Rattle.rtp_media_browsers.specs.declared.wish.Wish.{Wish};
@@ -37,4 +38,27 @@ pub fn following_law()
 /// lines.
 pub fn lines_law()
     ensures { (t : Transport) (m : MediaLine) → LinesStay t m }
+{}
+
+/// What a section of a browser's text tells of its transport comes before what the session tells: credentials and
+/// candidates (RFC 8839 5.4), and the role (RFC 8842 5).
+pub fn levels_law()
+    ensures { TellsByLevels }
+{}
+
+/// Who opens the connection (RFC 5763 5, RFC 8842 5.2 and 5.3): only an offer may leave it to the other end, a role that
+/// was settled stays, and the two ends never have one role.
+pub fn roles_law()
+    ensures { RolesFit }
+{}
+
+/// An answer lists the same payload types as the end's own text: those of the offer first and in its order, then the
+/// others in the answer's (RFC 3264 6.1).
+pub fn order_law()
+    ensures { OrdersTypes }
+{}
+
+/// An end's offer or answer is a text as ends write it, the premise of `return_law`.
+pub fn end_text_law()
+    ensures { EndsWriteEndTexts }
 {}

@@ -33,7 +33,10 @@ pub use calls::{answer_for_end, for_browser, for_end};
 pub use defaults::{map_for_browsers, rows_for_browsers};
 pub use error::BrowserError;
 pub use identity::{Identity, Said, Track};
-pub use laws::{following_law, lines_law, places_law, return_law};
+pub use laws::{
+    end_text_law, following_law, levels_law, lines_law, order_law, places_law, return_law,
+    roles_law,
+};
 pub use plan::{Place, Plan, Remote};
 pub use transport::{Gathering, Transport};
 pub use wanted::sections_for;

@@ -1,0 +1,72 @@
+-- Where values are told, and who opens the connection.
+use Rattle.std.proofs.Common.{◌≡◌, ◌∙◌, ap, sym, refl, ℕ, Bool, true, false, List, [], ◌∷◌}
+use Rattle.std.specs.Prelude.{◌≢◌, ◌⊎◌, Option, None, Some}
+use Rattle.std.specs.Option.{option_map, option_or}
+use mathlib.Core.Bool.{false≢true}
+use Rattle.sdp_formats_values.specs.declared.candidate.IceCreds.{IceCreds}
+use Rattle.sdp_formats_values.specs.declared.setup.Setup.{Setup}
+use Rattle.sdp_formats_values.specs.declared.setup.Setup.TheVariants.{ActPass, Active, Passive}
+use Rattle.rtp_media_browsers.specs.Fit.{may_say}
+use Rattle.rtp_media_browsers.specs.Remotes.{creds_with, else_of}
+use Rattle.rtp_media_browsers.specs.StandardLaws.{RolesFit, TellsByLevels}
+
+creds_by : (own shared : Option (List ℕ × List ℕ)) → Option IceCreds
+creds_by own shared = option_map creds_with (option_or own shared)
+
+else_own : {A : Type 0} (xs ys : List A) → xs ≢ [] → else_of xs ys ≡ xs
+else_own [] ys some = absurd (some refl)
+else_own (x ∷ xs) ys some = refl
+
+pub tells_by_levels : TellsByLevels
+tells_by_levels s m remote tells = record {
+  creds = record {
+    own = λ ufrag pass own. tells.creds ∙ ap (λ o. option_map creds_with (option_or o _)) own;
+    shared = λ ufrag pass own shared.
+        tells.creds ∙ ap (λ o. option_map creds_with (option_or o _)) own ∙ ap (option_map creds_with) shared;
+    neither = λ own shared.
+        tells.creds ∙ ap (λ o. option_map creds_with (option_or o _)) own ∙ ap (option_map creds_with) shared;
+  };
+  setup = record {
+    own = λ setup own. tells.setup ∙ ap (λ o. option_or o _) own;
+    shared = λ own. tells.setup ∙ ap (λ o. option_or o _) own;
+  };
+  candidates = record {
+    own = λ some. tells.candidates ∙ else_own _ _ some;
+    shared = λ none. tells.candidates ∙ ap (λ xs. else_of xs _) none;
+  };
+}
+
+stays : (is_answer : Bool) (role before : Setup) (remote : Option Setup)
+    → may_say is_answer role (Some before) remote ≡ true → (role ≡ ActPass) ⊎ (role ≡ before)
+stays b ActPass before remote said = inl refl
+stays b Active Active remote said = inr refl
+stays b Active Passive remote said = absurd (false≢true said)
+stays b Active ActPass remote said = absurd (false≢true said)
+stays b Passive Passive remote said = inr refl
+stays b Passive Active remote said = absurd (false≢true said)
+stays b Passive ActPass remote said = absurd (false≢true said)
+
+active : (b : Bool) (before : Option Setup) → may_say b Active before (Some Active) ≡ false
+active b None = refl
+active b (Some Active) = refl
+active b (Some Passive) = refl
+active b (Some ActPass) = refl
+
+passive : (b : Bool) (before : Option Setup) → may_say b Passive before (Some Passive) ≡ false
+passive b None = refl
+passive b (Some Active) = refl
+passive b (Some Passive) = refl
+passive b (Some ActPass) = refl
+
+pub roles_fit : RolesFit
+roles_fit = record {
+  offer = λ before remote. refl;
+  answer = λ before remote. refl;
+  stays = stays;
+  active = active;
+  passive = passive;
+  left_passive = refl;
+  left_active = refl;
+  kept = λ role remote. refl;
+  unsettled = λ before. refl;
+}
