@@ -3,35 +3,113 @@
 //! the RTP and SDP types that the calls use.
 #![tactic(auto)]
 
-pub use media_types::{Codec, MediaKind};
-pub use packet_info::{Layers, PacketInfo, packet_info, packet_info_law};
-pub use payload_core_base::{CodecExtra, PacketError};
-pub use payload_core_buffer::{MAX_HELD, MIN_HELD, Unit, may_hold};
-pub use rtp_media_browsers::{
-    BrowserError, Gathering, Identity, NamedWish, Place, Plan, Remote, Said, Target, Track,
-    Transport, Wish, WishError, answer_for_end, end_text_law, following_law, for_browser, for_end,
-    map_for_browsers, return_law, rows_for_browsers, sections_for, wishes_for,
-};
-pub use rtp_media_ends::{
-    Distances, End, OpenError, ReceivedAll, StreamParams, connect, isolation_law, openings_law,
-    repairs_law, transparency_law,
-};
-pub use rtp_media_exchange::{EndError, ExchangeError};
-pub use rtp_media_forward::{Forwarder, Piece, Placed, forwarding_laws, relayed_laws};
-pub use rtp_media_forward_runs::{first_hop_law, forwarded_runs_law, hops_laws};
-pub use rtp_media_program::{RunFault, Status, run};
-pub use rtp_media_runs::{
-    Event, Played, Sample, headline, late_repairs_law, play, redundancy_law, second_hop_law,
-};
-pub use rtp_media_sections::{AgreedSection, SectionSpec, are_sound};
-pub use rtp_media_stream_table::{Polls, ReceiveError, Received};
-pub use rtp_media_streams::{Arrival, Datagram, ForwardError, PollFault, RepairError, SampleError};
-pub use rtp_wire::{
-    Direction, Extension, ExtensionMap, ExtensionValues, Frequency, MediaTime, Mid, Pt, SeqNo,
-    SessionId, Ssrc,
-};
-pub use sdp_formats_data::{SdpError, Session, SessionAttribute};
-pub use sdp_formats_grammar::{Listed, Text};
-pub use sdp_formats_rounds::{CodecConfig, RoundError};
-pub use sdp_formats_rows::{CodecSpec, FormatParams, PayloadParams};
+pub use media_types::Codec;
+pub use media_types::MediaKind;
+pub use packet_info::Layers;
+pub use packet_info::PacketInfo;
+pub use packet_info::packet_info;
+pub use packet_info::packet_info_law;
+pub use payload_core_base::CodecExtra;
+pub use payload_core_base::PacketError;
+pub use payload_core_buffer::MAX_HELD;
+pub use payload_core_buffer::MIN_HELD;
+pub use payload_core_buffer::Unit;
+pub use payload_core_buffer::may_hold;
+pub use rtp_media_browsers::BrowserError;
+pub use rtp_media_browsers::Gathering;
+pub use rtp_media_browsers::Identity;
+pub use rtp_media_browsers::NamedWish;
+pub use rtp_media_browsers::Place;
+pub use rtp_media_browsers::Plan;
+pub use rtp_media_browsers::Remote;
+pub use rtp_media_browsers::Said;
+pub use rtp_media_browsers::Target;
+pub use rtp_media_browsers::Track;
+pub use rtp_media_browsers::Transport;
+pub use rtp_media_browsers::Wish;
+pub use rtp_media_browsers::WishError;
+pub use rtp_media_browsers::answer_for_end;
+pub use rtp_media_browsers::end_text_law;
+pub use rtp_media_browsers::following_law;
+pub use rtp_media_browsers::for_browser;
+pub use rtp_media_browsers::for_end;
+pub use rtp_media_browsers::levels_law;
+pub use rtp_media_browsers::lines_law;
+pub use rtp_media_browsers::map_for_browsers;
+pub use rtp_media_browsers::order_law;
+pub use rtp_media_browsers::places_law;
+pub use rtp_media_browsers::return_law;
+pub use rtp_media_browsers::roles_law;
+pub use rtp_media_browsers::rows_for_browsers;
+pub use rtp_media_browsers::sections_for;
+pub use rtp_media_browsers::wishes_for;
+pub use rtp_media_ends::Distances;
+pub use rtp_media_ends::End;
+pub use rtp_media_ends::OpenError;
+pub use rtp_media_ends::ReceivedAll;
+pub use rtp_media_ends::StreamParams;
+pub use rtp_media_ends::connect;
+pub use rtp_media_ends::exchanged_law;
+pub use rtp_media_ends::isolation_law;
+pub use rtp_media_ends::openings_law;
+pub use rtp_media_ends::repairs_law;
+pub use rtp_media_ends::transparency_law;
+pub use rtp_media_exchange::EndError;
+pub use rtp_media_exchange::ExchangeError;
+pub use rtp_media_exchange::mutual_law;
+pub use rtp_media_exchange::one_agreement_law;
+pub use rtp_media_forward::Forwarder;
+pub use rtp_media_forward::Piece;
+pub use rtp_media_forward::Placed;
+pub use rtp_media_forward::forwarding_laws;
+pub use rtp_media_forward::relayed_laws;
+pub use rtp_media_forward_runs::first_hop_law;
+pub use rtp_media_forward_runs::forwarded_runs_law;
+pub use rtp_media_forward_runs::hops_laws;
+pub use rtp_media_program::RunFault;
+pub use rtp_media_program::Status;
+pub use rtp_media_program::run;
+pub use rtp_media_runs::Event;
+pub use rtp_media_runs::Played;
+pub use rtp_media_runs::Sample;
+pub use rtp_media_runs::again_law;
+pub use rtp_media_runs::headline;
+pub use rtp_media_runs::late_repairs_law;
+pub use rtp_media_runs::play;
+pub use rtp_media_runs::redundancy_law;
+pub use rtp_media_runs::second_hop_law;
+pub use rtp_media_runs::well_formed_law;
+pub use rtp_media_sections::AgreedSection;
+pub use rtp_media_sections::SectionSpec;
+pub use rtp_media_sections::are_sound;
+pub use rtp_media_stream_table::Polls;
+pub use rtp_media_stream_table::ReceiveError;
+pub use rtp_media_stream_table::Received;
+pub use rtp_media_streams::Arrival;
+pub use rtp_media_streams::Datagram;
+pub use rtp_media_streams::ForwardError;
+pub use rtp_media_streams::PollFault;
+pub use rtp_media_streams::RepairError;
+pub use rtp_media_streams::SampleError;
+pub use rtp_wire::Direction;
+pub use rtp_wire::Extension;
+pub use rtp_wire::ExtensionMap;
+pub use rtp_wire::ExtensionValues;
+pub use rtp_wire::Frequency;
+pub use rtp_wire::MediaTime;
+pub use rtp_wire::Mid;
+pub use rtp_wire::Pt;
+pub use rtp_wire::SeqNo;
+pub use rtp_wire::SessionId;
+pub use rtp_wire::Ssrc;
+pub use sdp_formats_data::SdpError;
+pub use sdp_formats_data::Session;
+pub use sdp_formats_data::SessionAttribute;
+pub use sdp_formats_grammar::Listed;
+pub use sdp_formats_grammar::Text;
+pub use sdp_formats_rounds::CodecConfig;
+pub use sdp_formats_rounds::RoundError;
+pub use sdp_formats_rows::CodecSpec;
+pub use sdp_formats_rows::FormatParams;
+pub use sdp_formats_rows::PayloadParams;
 pub use sdp_formats_values::Bandwidth;

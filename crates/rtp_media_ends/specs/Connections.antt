@@ -6,6 +6,7 @@ use Rattle.rtp_media_exchange.specs.Offers.{Accepts, Answers, offer_of}
 use Rattle.rtp_media_exchange.specs.Refusals.{MayAccept, MayAnswer, Refuses, RefusesAccept, RefusesAnswer}
 use Rattle.rtp_media_exchange.specs.Refusals.{refusal_of_offer}
 use Rattle.rtp_media_exchange.specs.Says.{AgreesOnText}
+use Rattle.rtp_media_exchange.specs.Wishes.{SaysOffer}
 use Rattle.rtp_media_exchange.specs.declared.ExchangeError.{ExchangeError}
 use Rattle.rtp_media_sections.specs.Agreement.{Agreed, agreed_map_of, agreed_row_of, own_repairs_of, remote_repairs_of}
 use Rattle.rtp_media_sections.specs.Sections.{Wanted}
@@ -39,6 +40,22 @@ pub record HaveExchanged (answer : List ℕ) (a b : EndState) : Type 0 where
   pub second : AgreesOnText answer b.exchange.agreed
   pub repairs_to : (mid : List ℕ) → own_repairs_of a.exchange.agreed mid ≡ remote_repairs_of b.exchange.agreed mid
   pub repairs_from : (mid : List ℕ) → own_repairs_of b.exchange.agreed mid ≡ remote_repairs_of a.exchange.agreed mid
+
+-- What the three calls of an exchange say, on whichever machines they are made: `offer` of the offering end, `answer` of
+-- the other one with the text that the first made, and `accept` with the answer's text.
+pub record HaveCalled (offer answer : List ℕ) (sections_a sections_b : List Wanted) (a b after_a after_b : EndState)
+    : Type 0 where
+  pub offers : SaysOffer offer sections_a
+  pub pending : a.exchange.pending ≡ Some sections_a
+  pub answers : Answers b.exchange offer sections_b answer after_b.exchange
+  pub accepts : Accepts a.exchange answer after_a.exchange
+  pub answered : AgreesOnText answer after_b.exchange.agreed
+  pub accepted : AgreesOnText answer after_a.exchange.agreed
+
+-- Then they have exchanged texts.
+abbrev pub CallsExchange : Type 0
+CallsExchange = (offer answer : List ℕ) (sections_a sections_b : List Wanted) (a b after_a after_b : EndState)
+    → HaveCalled offer answer sections_a sections_b a b after_a after_b → HaveExchanged answer after_a after_b
 
 -- In each section both have the same row for every payload type, and the same map of header extensions.
 pub record HaveOneAgreement (a b : List Agreed) : Type 0 where

@@ -4,6 +4,7 @@ ghost use Rattle.std.specs.Prelude.{◌≡◌, ◌↔◌, ℕ, List, map, None, 
 ghost use Rattle.rtp_media_streams.specs.Repairing.{repair};
 ghost use Rattle.rtp_media_ends.specs.Repairs.{IsHeaded, TakesRepairs};
 ghost use Rattle.rtp_media_schedules.specs.Hearing.{after_events};
+ghost use Rattle.rtp_media_ends.specs.Connections.{CallsExchange};
 ghost use Rattle.rtp_media_ends.specs.EndArrivals.{after_datagram, verdict_of};
 ghost use Rattle.rtp_media_ends.specs.Ends.{EndState, receiver_at, refusal_of_open_receiver};
 ghost use Rattle.rtp_media_ends.specs.Ends.{refusal_of_open_sender};
@@ -16,6 +17,7 @@ ghost use Rattle.rtp_media_streams.specs.Sending.{Sample, Sending};
 ghost use Rattle.rtp_media_ends.specs.OwnEvents.{event_in, own_events};
 
 use h26x_payload::codec_law;
+use rtp_media_exchange::mutual_law;
 
 /// What datagrams do to a receiving stream depends only on its own, those with its SSRC and payload
 /// types, whatever else came in between.
@@ -60,3 +62,14 @@ pub fn openings_law()
     ensures receives { (end : EndState) (mid : List ℕ) (ssrc pt : ℕ) →
         (refusal_of_open_receiver end mid ssrc pt ≡ None) ↔ ReceivesAt end mid ssrc pt }
 {}
+
+/// Two ends on two machines have exchanged texts, which is what the headline asks for first, once one offered, the other
+/// answered that text, and the first accepted the answer: from what the three calls say, as [`connect`] says it of its
+/// own.
+///
+/// [`connect`]: crate::connect
+pub fn exchanged_law()
+    ensures { CallsExchange }
+{
+    mutual_law();
+}

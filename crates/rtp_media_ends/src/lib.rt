@@ -11,6 +11,6 @@ mod rows;
 
 pub use end::{End, ReceivedAll, connect};
 pub use errors::OpenError;
-pub use laws::{isolation_law, openings_law, repairs_law, transparency_law};
+pub use laws::{exchanged_law, isolation_law, openings_law, repairs_law, transparency_law};
 pub use new_streams::{new_receiver, new_sender};
 pub use params::{Distances, StreamParams};
