@@ -1,6 +1,6 @@
 -- What an end's offer or answer says is a text as ends write it.
 use Rattle.std.proofs.Common.{◌≡◌, ◌∙◌, ap, sym, refl, ℕ, Bool, true, false, not, List, [], ◌∷◌, ◌++◌, map}
-use Rattle.std.specs.Prelude.{◌&&◌, ◌||◌, Option, None, Some, codes}
+use Rattle.std.specs.Prelude.{◌&&◌, ◌||◌, Option, None, Some, codes, if◌then◌else◌}
 use Rattle.std.specs.List.{flat_map, list_all}
 use Rattle.std.specs.Cmp.Lexicographic.{nat_list_eq_equiv}
 use Rattle.std.proofs.lemmas.Bool.{and_from, or_right}
@@ -18,11 +18,12 @@ use Rattle.sdp_formats_data.specs.Lookups.{mid_in}
 use Rattle.sdp_formats_data.specs.Media.{direction_attribute}
 use Rattle.sdp_formats_data.specs.WholeTexts.{is_name}
 use Rattle.sdp_formats_data.specs.declared.media.MediaAttribute.{MediaAttribute}
+use Rattle.sdp_formats_data.specs.declared.media.MediaAttribute.TheVariants.{RtcpFb, RtpMap}
 use Rattle.sdp_formats_rows.specs.Rows.{Row}
-use Rattle.sdp_formats_section_rows.specs.Attributes.{attributes_of, feedback_line, feedback_lines, fmtp_of, is_used}
+use Rattle.sdp_formats_section_rows.specs.Attributes.{all_feedback, attributes_of, feedback_line, feedback_lines}
+use Rattle.sdp_formats_section_rows.specs.Attributes.{fmtp_of, is_used, words_of}
 use Rattle.sdp_formats_section_rows.specs.Attributes.{params_in, red_lines, resend_lines}
-use Rattle.sdp_formats_section_rows.specs.declared.feedback.Feedback.{Feedback}
-use Rattle.sdp_formats_section_rows.specs.declared.feedback.Feedback.TheVariants as feedback
+use Rattle.sdp_formats_section_rows.specs.Maps.{map_of}
 use Rattle.sdp_formats_values.specs.MediaTypes.{is_media}
 use Rattle.sdp_formats_values.specs.declared.param.FormatParam.{FormatParam}
 use Rattle.rtp_media_browsers.specs.Laws.{IsBundleOf, has_no_transport, is_end_section, names_only}
@@ -48,10 +49,14 @@ each_of : {A : Type 0} (f : A → List MediaAttribute) → ((x : A) → AreNone 
 each_of f none [] = refl
 each_of f none (x ∷ xs) = with_more (f x) (flat_map f xs) (none x) (each_of f none xs)
 
-feedback_none : (row : Row) (f : Feedback) (b : Bool) → is_used row f ≡ b → AreNone (feedback_line row f)
+line_if : (b : Bool) (l : MediaAttribute) → is_transport l ≡ false → AreNone (if b then l ∷ [] else [])
+line_if true l is = rw is refl
+line_if false l is = refl
+
+feedback_none : (row : Row) → AreNone (feedback_lines row)
 unfolding feedback_line is_transport
-feedback_none row f true is = rw is refl
-feedback_none row f false is = rw is refl
+feedback_none row =
+    each_of (feedback_line row) (λ f. line_if (is_used row f) (RtcpFb row.pt (words_of f)) refl) all_feedback
 
 fmtp_none : (pt : ℕ) (ps : List FormatParam) → AreNone (fmtp_of pt ps)
 unfolding fmtp_of is_transport
@@ -68,12 +73,24 @@ unfolding red_lines is_transport
 red_none row None = refl
 red_none row (Some pt) = refl
 
-row_none : (row : Row) → AreNone (attributes_of row)
-unfolding is_transport
-row_none row =
-    with_more (feedback_lines row) _ (each_of (feedback_line row) (λ f. feedback_none row f (is_used row f) refl) _)
-    (with_more (fmtp_of row.pt (params_in row.spec)) _ (fmtp_none row.pt (params_in row.spec))
-    (with_more (resend_lines row row.resend) _ (resend_none row row.resend) (red_none row row.red)))
+module _ (row : Row) where
+  abbrev map_line : List MediaAttribute
+  map_line = RtpMap row.pt (map_of row.spec) ∷ []
+
+  abbrev with_feedback : List MediaAttribute
+  with_feedback = map_line ++ feedback_lines row
+
+  abbrev with_format : List MediaAttribute
+  with_format = with_feedback ++ fmtp_of row.pt (params_in row.spec)
+
+  row_none : AreNone (attributes_of row)
+  unfolding is_transport
+  row_none =
+      with_more (with_format ++ resend_lines row row.resend) (red_lines row row.red)
+      (with_more with_format (resend_lines row row.resend)
+      (with_more with_feedback (fmtp_of row.pt (params_in row.spec))
+      (with_more map_line (feedback_lines row) refl (feedback_none row)) (fmtp_none row.pt (params_in row.spec)))
+      (resend_none row row.resend)) (red_none row row.red)
 
 way_none : (dir : Direction) → is_transport (direction_attribute dir) ≡ false
 unfolding is_transport
@@ -86,8 +103,9 @@ lines_none : (s : Section) → AreNone (section_lines s)
 unfolding is_transport
 lines_none s =
     rw (way_none s.dir)
-    (with_more (map extmap_line s.extmaps) _ (all_of extmap_line (λ e. refl) s.extmaps)
-    (with_more (row_lines s.rows) _ (each_of attributes_of row_none s.rows)
+    (with_more (map extmap_line s.extmaps) (row_lines s.rows ++ source_lines s.sources)
+    (all_of extmap_line (λ e. refl) s.extmaps)
+    (with_more (row_lines s.rows) (source_lines s.sources) (each_of attributes_of row_none s.rows)
     (with_more (map pair_line (repairs_in s.sources)) (map source_line s.sources)
     (all_of pair_line (λ p. refl) (repairs_in s.sources)) (all_of source_line (λ p. refl) s.sources))))
 
@@ -125,6 +143,7 @@ ends_write_end_texts id all = record {
   sections = are_end all;
   session = refl;
   groups = rw (names_are all)
-      (among_all (map (λ (s : Section). s.mid) all) (map (λ (s : Section). s.mid) all) (λ name there. there));
+      (and_from (list_all (is_among (map (λ (s : Section). s.mid) all)) (map (λ (s : Section). s.mid) all)) true
+      (among_all (map (λ (s : Section). s.mid) all) (map (λ (s : Section). s.mid) all) (λ name there. there)) refl);
   bundles = (λ is. sym (names_are all), tt);
 }

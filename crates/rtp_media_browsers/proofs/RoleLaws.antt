@@ -1,38 +1,51 @@
 -- Where values are told, and who opens the connection.
 use Rattle.std.proofs.Common.{◌≡◌, ◌∙◌, ap, sym, refl, ℕ, Bool, true, false, List, [], ◌∷◌}
+use Rattle.std.proofs.Common.{inl, inr}
 use Rattle.std.specs.Prelude.{◌≢◌, ◌⊎◌, Option, None, Some}
 use Rattle.std.specs.Option.{option_map, option_or}
 use mathlib.Core.Bool.{false≢true}
-use Rattle.sdp_formats_values.specs.declared.candidate.IceCreds.{IceCreds}
+use Rattle.sdp_formats_data.specs.ListedCandidates.{section_candidates, session_candidates}
+use Rattle.sdp_formats_data.specs.Lookups.{first_of, setup_in}
+use Rattle.sdp_formats_data.specs.Sections as sections
+use Rattle.sdp_formats_data.specs.Sessions as sessions
+use Rattle.sdp_formats_data.specs.declared.media.MediaLine.{MediaLine}
+use Rattle.sdp_formats_data.specs.declared.session.Session.{Session}
+use Rattle.sdp_formats_values.specs.declared.candidate.Candidate.{Candidate}
 use Rattle.sdp_formats_values.specs.declared.setup.Setup.{Setup}
 use Rattle.sdp_formats_values.specs.declared.setup.Setup.TheVariants.{ActPass, Active, Passive}
 use Rattle.rtp_media_browsers.specs.Fit.{may_say}
-use Rattle.rtp_media_browsers.specs.Remotes.{creds_with, else_of}
+use Rattle.rtp_media_browsers.specs.Remotes.{Tells, creds_with, else_of}
 use Rattle.rtp_media_browsers.specs.StandardLaws.{RolesFit, TellsByLevels}
-
-creds_by : (own shared : Option (List ℕ × List ℕ)) → Option IceCreds
-creds_by own shared = option_map creds_with (option_or own shared)
+use Rattle.rtp_media_browsers.specs.declared.plan.Remote.{Remote}
 
 else_own : {A : Type 0} (xs ys : List A) → xs ≢ [] → else_of xs ys ≡ xs
 else_own [] ys some = absurd (some refl)
 else_own (x ∷ xs) ys some = refl
 
+module _ (s : Session) (m : MediaLine) (remote : Remote) (tells : Tells s m remote) where
+  creds_by : (own : Option (List ℕ × List ℕ)) → sections.creds_of m.attrs ≡ own
+      → remote.creds ≡ option_map creds_with (option_or own (sessions.creds_of s.attrs))
+  creds_by own is = tells.creds ∙ ap (λ (o : Option (List ℕ × List ℕ)).
+      option_map creds_with (option_or o (sessions.creds_of s.attrs))) is
+
+  setup_by : (own : Option Setup) → first_of setup_in m.attrs ≡ own
+      → remote.setup ≡ option_or own (first_of sessions.setup_in s.attrs)
+  setup_by own is = tells.setup ∙ ap (λ (o : Option Setup). option_or o (first_of sessions.setup_in s.attrs)) is
+
 pub tells_by_levels : TellsByLevels
 tells_by_levels s m remote tells = record {
   creds = record {
-    own = λ ufrag pass own. tells.creds ∙ ap (λ o. option_map creds_with (option_or o _)) own;
-    shared = λ ufrag pass own shared.
-        tells.creds ∙ ap (λ o. option_map creds_with (option_or o _)) own ∙ ap (option_map creds_with) shared;
-    neither = λ own shared.
-        tells.creds ∙ ap (λ o. option_map creds_with (option_or o _)) own ∙ ap (option_map creds_with) shared;
+    own = λ ufrag pass own. creds_by s m remote tells (Some (ufrag, pass)) own;
+    shared = λ ufrag pass own shared. creds_by s m remote tells None own ∙ ap (option_map creds_with) shared;
+    neither = λ own shared. creds_by s m remote tells None own ∙ ap (option_map creds_with) shared;
   };
   setup = record {
-    own = λ setup own. tells.setup ∙ ap (λ o. option_or o _) own;
-    shared = λ own. tells.setup ∙ ap (λ o. option_or o _) own;
+    own = λ setup own. setup_by s m remote tells (Some setup) own;
+    shared = λ own. setup_by s m remote tells None own;
   };
   candidates = record {
-    own = λ some. tells.candidates ∙ else_own _ _ some;
-    shared = λ none. tells.candidates ∙ ap (λ xs. else_of xs _) none;
+    own = λ some. tells.candidates ∙ else_own (section_candidates m) (session_candidates s) some;
+    shared = λ none. tells.candidates ∙ ap (λ (xs : List Candidate). else_of xs (session_candidates s)) none;
   };
 }
 
