@@ -32,6 +32,8 @@ NOT_RUN = {
     "-ljilqamur": "dist/make runs it",
     "examples/quick_start.c": "it is for the unpacked archive",
     "cargo run": "dist/make runs it",
+    "cargo": "it is for a patch of one's own",
+    "unittest": "it is for a patch of one's own",
 }
 
 
