@@ -155,6 +155,12 @@ def differing_crate_pages():
     yield from printed.stdout.splitlines()
 
 
+def differing_api_pages():
+    """The pages of docs/api are what docs/api_pages.py writes."""
+    printed = subprocess.run([sys.executable, ROOT / "docs/api_pages.py", "--check"], capture_output=True, text=True)
+    yield from (printed.stdout + printed.stderr).splitlines()
+
+
 def differing_files():
     """What one program printed and another one reads, or a page shows, is the same."""
     printed = without_indent((CRATES / "rtpexplain/stdout").read_text(encoding="utf-8").split("\n"))
@@ -330,6 +336,7 @@ found = [
     *differing_codes(),
     *differing_picture(),
     *differing_crate_pages(),
+    *differing_api_pages(),
     *missing_promises(),
     *differing_blocks(),
     *differing_files(),

@@ -65,7 +65,7 @@ def wrapped(crate, names):
 
 HEAD = """# Layers
 
-Written by `python3 docs/layers.py > docs/LAYERS.md` from [crates.txt](../crates.txt). Behind each crate stand those
+Written by `python3 docs/layers.py > docs/LAYERS.md` from [crates.txt](../crates.txt). After each crate are those
 right below it; [ARCHITECTURE](ARCHITECTURE.md) says what each is about.
 """
 

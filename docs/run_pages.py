@@ -1,10 +1,10 @@
 #!/usr/bin/env python3
-"""Runs the commands that stand on the pages, each in a copy of the tree as it was committed, and tells which fail.
+"""Runs the commands on the pages, each in a copy of the tree as it was committed, and tells which fail.
 
     python3 docs/run_pages.py [PAGE..]
 
-A command is a line of a page, or several that end with `|`, behind four blanks and outside of code. FILE stands for
-crates/rtplines/stdin, KIT for the folder of the kit, and a folder that a page names before is the working one. What is
+A command is a line of a page, or several that end with `|`, after four blanks and outside of code. FILE is
+crates/rtplines/stdin, KIT the folder of the kit, and a folder that a page names before is the working one. What is
 not run, with the reason, is told too. Most run programs unproved (`rt try`), which takes a minute each.
 """
 import re
@@ -30,7 +30,10 @@ NOT_RUN = {
     "tshark": "it needs a capture of one's own",
     "rt try < stdin": "it is for a crate of one's own",
     "-ljilqamur": "dist/make runs it",
+    "examples/quick_start.c": "it is for the unpacked archive",
     "cargo run": "dist/make runs it",
+    "cargo": "it is for a patch of one's own",
+    "unittest": "it is for a patch of one's own",
 }
 
 

@@ -16,10 +16,16 @@ const PLAIN: [u8; 28] = [
     b'h', 0, 1, 2, 3, 4,
 ];
 
+/// The text of a refusal without what it was about, which the header's texts don't say.
+fn reason<E: Display>(error: &E) -> String {
+    let text = error.to_string();
+    text.split_once(" (").map_or(text.clone(), |(reason, _)| reason.into())
+}
+
 fn say<T, E: Display>(what: &str, answer: &Result<T, E>) {
     match answer {
         Ok(_) => println!("{what}: done"),
-        Err(error) => println!("{what}: {error}"),
+        Err(error) => println!("{what}: {}", reason(error)),
     }
 }
 
@@ -53,7 +59,7 @@ fn say_unit<E: Display>(what: &str, unit: &Result<Option<Unit>, E>) {
     let unit = match unit {
         Ok(Some(unit)) => unit,
         Ok(None) => return println!("{what}: no unit"),
-        Err(error) => return println!("{what}: {error}"),
+        Err(error) => return println!("{what}: {}", reason(error)),
     };
     println!("{what}: done");
     print!("unit {} to {} at {}, keyframe {}", unit.first, unit.last, unit.time, u8::from(unit.is_keyframe));

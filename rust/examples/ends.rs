@@ -1,7 +1,7 @@
 //! Reads lines of rtplines over two ends, a and b, and prints what rtplines prints: rows, ends, offers and answers,
 //! streams, samples, datagrams and units. `fixed`, `connect`, `queue` and `play` are not among them.
 
-use jilqamur::{Direction, End, EndError, Kind, MIN_HELD, Received, Row, Section, StreamParams, Unit};
+use jilqamur::{Direction, End, EndError, Kind, MIN_HELD, Reason, Received, Row, Section, StreamParams, Unit};
 use std::io::{self, BufRead};
 
 type Said = Result<String, Box<dyn std::error::Error>>;
@@ -125,8 +125,8 @@ fn poll(end: &mut End, stream: usize) -> Said {
         Ok(Some(Unit { first, last, time, bytes, .. })) => {
             Ok(format!("unit {first} {last} {time} {}", hex(&bytes)))
         }
-        Err(EndError::Payload) => Ok("fault Payload".into()),
-        Err(error) => Err(error.into()),
+        Err(refused) if refused.reason() == Reason::Payload => Ok("fault Payload".into()),
+        Err(refused) => Err(refused.into()),
     }
 }
 
@@ -162,10 +162,10 @@ fn main() -> Result<(), Box<dyn std::error::Error>> {
         let end = if words[1] == "a" { &mut a } else { &mut b };
         match answer(end, words[0], &words[2..]) {
             Ok(said) => println!("{said}"),
-            Err(error) => match error.downcast_ref::<EndError>() {
-                Some(EndError::OutOfRange | EndError::NotMade | EndError::NoStream) | None => println!("error line"),
-                Some(EndError::TextUnreadable) => println!("refused Unreadable"),
-                Some(refusal) => println!("refused {refusal:?}"),
+            Err(error) => match error.downcast_ref().map(EndError::reason) {
+                Some(Reason::OutOfRange | Reason::NotMade | Reason::NoStream) | None => println!("error line"),
+                Some(Reason::TextUnreadable) => println!("refused Unreadable"),
+                Some(reason) => println!("refused {reason:?}"),
             },
         }
     }

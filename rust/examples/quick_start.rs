@@ -1,7 +1,7 @@
 //! Two ends agree on Opus by an offer and an answer, and one sends three samples to the other: `crates/quick_start` in
 //! Rust.
 
-use jilqamur::{Direction, End, EndError, Kind, MIN_HELD, Received, Row, Section, StreamParams};
+use jilqamur::{Direction, End, EndError, Kind, MIN_HELD, Reason, Received, Row, Section, StreamParams};
 
 /// An end that has Opus at payload type 111.
 fn opus_end(session: u64) -> Result<End, EndError> {
@@ -21,11 +21,11 @@ fn receive(end: &mut End, datagram: &[u8]) -> Result<(), EndError> {
     let Received::Taken(stream, _) = end.receive(datagram)? else {
         return Ok(()); // it belongs to no stream, is damaged or came before
     };
-    for unit in end.units(stream) {
+    for unit in end.receiver(stream).units() {
         match unit {
             Ok(unit) => println!("at {}: {:?}", unit.time, unit.bytes),
-            Err(EndError::Payload) => {} // the codec can't read the next frame, which is passed over
-            Err(error) => return Err(error),
+            Err(refused) if refused.reason() == Reason::Payload => {} // the codec can't read this frame: go on
+            Err(refused) => return Err(refused),
         }
     }
     Ok(())
@@ -36,11 +36,11 @@ fn main() -> Result<(), EndError> {
     let offer = a.offer(&audio(&[44]))?; // the two texts are all that travels
     let answer = b.answer(&offer, &audio(&[45]))?;
     a.accept(&answer)?;
-    let sender = a.open_sender("0", 44, 111, StreamParams::new(1000, 1200, 1400), None)?;
+    let stream = a.open_sender("0", 44, 111, StreamParams::new(1000, 1200, 1400), None)?;
     b.open_receiver("0", 44, 111, 4, MIN_HELD)?;
     for k in 0..3 {
         // The datagrams of a sample would go out to the network; here they go to b.
-        for datagram in a.push_sample(sender, 960 * u64::from(k), &[k, 2, 3], None)? {
+        for datagram in a.sender(stream).push_sample(960 * u64::from(k), &[k, 2, 3])? {
             receive(&mut b, &datagram)?;
         }
     }

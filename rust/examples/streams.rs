@@ -2,7 +2,7 @@
 //! the lines `sample E N TICKS HEX`, `receive E HEX` and `poll E N` of rtplines, and prints what rtplines prints at
 //! ends with one such stream each. The arguments are CODEC CLOCK PT SSRC MTU PICTUREID HOLDBACK.
 
-use jilqamur::{EndError, Format, Header, MIN_HELD, Receiver, Sender, SenderParams, Unit};
+use jilqamur::{EndError, Format, Header, MIN_HELD, Reason, Receiver, Sender, SenderParams, Unit};
 use std::io::{self, BufRead};
 
 fn from_hex(text: &str) -> Vec<u8> {
@@ -25,7 +25,7 @@ fn sample(sender: &mut Sender, ticks: u64, sample: &[u8]) {
             }
             println!("ok");
         }
-        Err(refusal) => println!("refused {refusal:?}"),
+        Err(refused) => println!("refused {:?}", refused.reason()),
     }
 }
 
@@ -48,8 +48,8 @@ fn poll(receiver: &mut Receiver) -> Result<(), EndError> {
     match receiver.poll() {
         Ok(None) => println!("none"),
         Ok(Some(Unit { first, last, time, bytes, .. })) => println!("unit {first} {last} {time} {}", hex(&bytes)),
-        Err(EndError::Payload) => println!("fault Payload"),
-        Err(error) => return Err(error),
+        Err(refused) if refused.reason() == Reason::Payload => println!("fault Payload"),
+        Err(refused) => return Err(refused),
     }
     Ok(())
 }

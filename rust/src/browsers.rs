@@ -1,12 +1,32 @@
 //! Offers and answers of browsers.
 
 use crate::ends::End;
-use crate::error::{code, done, EndError};
+use crate::error::{Reason, code};
 use crate::params::Direction;
+use crate::refused::{EndError, done};
 use crate::sys;
 use std::ptr;
 
 /// What an end wants of a section of a browser's offer.
+///
+/// ```
+/// # use jilqamur::{Kind, Section, Setup, Transport};
+/// use jilqamur::{Direction, End, Wish};
+/// # let mut browser = End::builder().codec("opus", 111).session(1).build()?;
+/// # let direction = Direction::SendRecv;
+/// # let audio = Section { mid: "0", kind: Kind::Audio, direction, ssrcs: &[44], repairs: &[] };
+/// # let offered = browser.offer(&[audio])?;
+/// # let transport = Transport {
+/// #     ufrag: "F7gI", password: "x9cml/YzichV2+XlhiMu8g", hash: "sha-256", digest: &[0x5a; 32],
+/// #     setup: Setup::ActPass, is_lite: false,
+/// # };
+/// # let offer = browser.for_browser(&offered, &transport)?;
+/// let mut end = End::builder().codec("opus", 111).session(2).build()?;
+/// let wish = Wish::Accept { direction: Direction::RecvOnly, ssrcs: &[], repairs: &[] };
+/// end.answer_browser(&offer, &[wish])?;
+/// assert_eq!(end.agreed_sections()[0].ssrcs, [44]); // the browser sends under it
+/// # Ok::<(), jilqamur::EndError>(())
+/// ```
 #[derive(Clone, Copy, Debug)]
 pub enum Wish<'a> {
     /// The end answers the section.
@@ -23,6 +43,11 @@ pub enum Wish<'a> {
 }
 
 /// The part of an end in the connection (RFC 8842 5).
+///
+/// ```
+/// use jilqamur::Setup;
+/// assert_eq!(Setup::ActPass as u8, 0);
+/// ```
 #[derive(Clone, Copy, Debug, PartialEq, Eq)]
 pub enum Setup {
     /// It is left open, as each offer does.
@@ -44,6 +69,33 @@ impl Setup {
 }
 
 /// The transport of an end as a browser is told of it; candidates come later (RFC 8840).
+///
+/// ```
+/// # use jilqamur::{Kind, Section};
+/// use jilqamur::{Direction, End, Setup, Transport, Wish};
+/// # let mut browser = End::builder().codec("opus", 111).session(1).build()?;
+/// # let direction = Direction::SendRecv;
+/// # let audio = Section { mid: "0", kind: Kind::Audio, direction, ssrcs: &[44], repairs: &[] };
+/// # let offered = browser.offer(&[audio])?;
+/// # let transport = Transport {
+/// #     ufrag: "F7gI", password: "x9cml/YzichV2+XlhiMu8g", hash: "sha-256", digest: &[0x5a; 32],
+/// #     setup: Setup::ActPass, is_lite: false,
+/// # };
+/// # let offer = browser.for_browser(&offered, &transport)?;
+/// # let mut end = End::builder().codec("opus", 111).session(2).build()?;
+/// let wish = Wish::Accept { direction: Direction::RecvOnly, ssrcs: &[], repairs: &[] };
+/// let answer = end.answer_browser(&offer, &[wish])?;
+/// let transport = Transport {
+///     ufrag: "K7Q2",
+///     password: "p1bYWCCmXlTzO4uD0mJ3rQ",
+///     hash: "sha-256",
+///     digest: &[0xa5; 32],
+///     setup: Setup::Passive,
+///     is_lite: false,
+/// };
+/// assert!(end.for_browser(&answer, &transport)?.contains("a=setup:passive"));
+/// # Ok::<(), jilqamur::EndError>(())
+/// ```
 #[derive(Clone, Copy, Debug)]
 pub struct Transport<'a> {
     /// The name of ICE (RFC 8839 5.4): 4 to 256 letters, digits, `+` and `/`.
@@ -56,11 +108,31 @@ pub struct Transport<'a> {
     pub digest: &'a [u8],
     /// `ActPass` in an offer; in an answer one of the others, as in each answer before.
     pub setup: Setup,
-    /// Whether the end answers connectivity checks alone (RFC 8839 5.3).
+    /// Whether the end only answers connectivity checks (RFC 8839 5.3).
     pub is_lite: bool,
 }
 
 /// What a browser's last text tells of its transport.
+///
+/// ```
+/// # use jilqamur::{Kind, Section, Transport};
+/// use jilqamur::{Direction, End, Setup, Wish};
+/// # let mut browser = End::builder().codec("opus", 111).session(1).build()?;
+/// # let direction = Direction::SendRecv;
+/// # let audio = Section { mid: "0", kind: Kind::Audio, direction, ssrcs: &[44], repairs: &[] };
+/// # let offered = browser.offer(&[audio])?;
+/// # let transport = Transport {
+/// #     ufrag: "F7gI", password: "x9cml/YzichV2+XlhiMu8g", hash: "sha-256", digest: &[0x5a; 32],
+/// #     setup: Setup::ActPass, is_lite: false,
+/// # };
+/// # let offer = browser.for_browser(&offered, &transport)?;
+/// # let mut end = End::builder().codec("opus", 111).session(2).build()?;
+/// # let wish = Wish::Accept { direction: Direction::RecvOnly, ssrcs: &[], repairs: &[] };
+/// end.answer_browser(&offer, &[wish])?;
+/// let remote = end.remote()?;
+/// assert_eq!((remote.ufrag.as_deref(), remote.setup), (Some("F7gI"), Some(Setup::ActPass)));
+/// # Ok::<(), jilqamur::EndError>(())
+/// ```
 #[derive(Clone, Debug, PartialEq, Eq)]
 pub struct Remote {
     /// The name of ICE.
@@ -77,17 +149,17 @@ pub struct Remote {
     pub candidates: Vec<String>,
     /// Whether further candidates may come later.
     pub is_trickling: bool,
-    /// Whether it answers connectivity checks alone.
+    /// Whether it only answers connectivity checks.
     pub is_lite: bool,
 }
 
-/// A text that a call copies, where it is there: for its size first, and then its bytes.
+/// A text that a call copies, if it is there: for its size first, and then its bytes.
 fn text_of(mut call: impl FnMut(*mut u8, usize, &mut usize) -> u32) -> Result<Option<String>, EndError> {
     let mut needed = 0;
     match call(ptr::NonNull::dangling().as_ptr(), 0, &mut needed) {
         code::NOTHING => return Ok(None),
         code::OK | code::TOO_SMALL => {}
-        answer => return Err(EndError::of(answer)),
+        answer => return Err(EndError::new(Reason::of(answer), None)),
     }
     let mut bytes = vec![0; needed];
     done(call(bytes.as_mut_ptr(), bytes.len(), &mut needed))?;
@@ -124,7 +196,7 @@ impl End {
     ///
     /// # Errors
     /// `NotMade`; else the first that holds of `TextUnreadable`, `RestUnread`, `MidNotKept`, `MidTwice`,
-    /// `SeveralBundles`, `OutsideBundle`, `NothingLeft` and `KeysAlone`; else `OutOfRange` where the repairs of a wish
+    /// `SeveralBundles`, `OutsideBundle`, `NothingLeft` and `KeysAlone`; else `OutOfRange` if the repairs of a wish
     /// aren't sound; else those of [`End::answer`]. All is unchanged.
     pub fn answer_browser(&mut self, offer: &str, wishes: &[Wish<'_>]) -> Result<String, EndError> {
         self.wishes(wishes)?;
@@ -154,7 +226,8 @@ impl End {
         let Transport { ufrag, password, hash, digest, setup, is_lite } = *transport;
         // SAFETY: the handle is open, and pointers and lengths are those of one slice each.
         done(unsafe {
-            sys::jilqamur_end_for_browser(self.0.raw(),
+            sys::jilqamur_end_for_browser(
+                self.0.raw(),
                 text.as_ptr(),
                 text.len(),
                 setup as u8,

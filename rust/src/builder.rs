@@ -1,8 +1,9 @@
 //! Ends made step by step.
 
 use crate::ends::End;
-use crate::error::EndError;
+use crate::error::Reason;
 use crate::params::Row;
+use crate::refused::{EndError, Place};
 
 /// The codecs that [`Builder::codec`] knows: name, clock rate and channels.
 const CODECS: [(&str, u32, Option<u8>); 13] = [
@@ -23,8 +24,7 @@ const CODECS: [(&str, u32, Option<u8>); 13] = [
 
 /// What an end is made of; [`End::builder`] begins it.
 ///
-/// ```no_run
-/// # fn main() -> Result<(), jilqamur::EndError> {
+/// ```
 /// use jilqamur::{End, Row};
 /// let end = End::builder()
 ///     .codec("opus", 111)
@@ -33,9 +33,8 @@ const CODECS: [(&str, u32, Option<u8>); 13] = [
 ///     .extension(1, "urn:ietf:params:rtp-hdrext:sdes:mid")
 ///     .session(7)
 ///     .build()?;
-/// # drop(end);
-/// # Ok(())
-/// # }
+/// assert!(end.agreed_sections().is_empty());
+/// # Ok::<(), jilqamur::EndError>(())
 /// ```
 #[derive(Clone, Debug, Default)]
 #[must_use]
@@ -44,7 +43,7 @@ pub struct Builder {
     has_default_rows: bool,
     extensions: Vec<(u8, String)>,
     session: u64,
-    unknown: bool,
+    unknown: Option<Place>,
 }
 
 impl Builder {
@@ -52,7 +51,7 @@ impl Builder {
     /// format parameters: opus, PCMU, PCMA, G722, CN, AMR-WB, telephone-event, VP8, VP9, AV1, H264, H265 or H266.
     pub fn codec(mut self, name: &str, payload_type: u8) -> Builder {
         let Some((name, clock_rate, channels)) = CODECS.iter().find(|known| known.0.eq_ignore_ascii_case(name)) else {
-            self.unknown = true;
+            self.unknown.get_or_insert_with(|| Place::row(name, payload_type));
             return self;
         };
         let row = Row::new(payload_type, *clock_rate);
@@ -87,23 +86,45 @@ impl Builder {
     ///
     /// # Errors
     /// `OutOfRange` for a codec that isn't known, a clock rate of 0 or an id that isn't 1 to 16; else those of
-    /// [`End::make`].
+    /// [`End::make`]. The error names the first row or extension for which the end is refused.
     pub fn build(self) -> Result<End, EndError> {
-        if self.unknown {
-            return Err(EndError::OutOfRange);
+        if self.unknown.is_some() {
+            return Err(EndError::new(Reason::OutOfRange, self.unknown));
         }
+        self.made(self.rows.len(), self.has_default_rows, self.extensions.len()).map_err(|refused| {
+            let place = refused.place().cloned().or_else(|| self.culprit(refused.reason()));
+            EndError::new(refused.reason(), place)
+        })
+    }
+
+    /// An end of the first rows and the first extensions.
+    fn made(&self, rows: usize, has_default_rows: bool, extensions: usize) -> Result<End, EndError> {
         let mut end = End::new()?;
-        for (row, codec, format) in &self.rows {
+        for (row, codec, format) in &self.rows[..rows] {
             end.row(row, codec, format)?;
         }
-        if self.has_default_rows {
+        if has_default_rows {
             end.default_rows()?;
         }
-        for (id, uri) in &self.extensions {
+        for (id, uri) in &self.extensions[..extensions] {
             end.extension(*id, uri)?;
         }
         end.make(self.session)?;
         Ok(end)
+    }
+
+    /// The first row, or else the first extension, with which an end is refused for this reason.
+    fn culprit(&self, reason: Reason) -> Option<Place> {
+        let is_refused = |rows, extensions| {
+            self.made(rows, false, extensions).is_err_and(|refused| refused.reason() == reason)
+        };
+        if let Some(last) = (0..self.rows.len()).find(|last| is_refused(last + 1, 0)) {
+            let (row, codec, _) = &self.rows[last];
+            return Some(Place::row(codec, row.payload_type()));
+        }
+        let last = (0..self.extensions.len()).find(|last| is_refused(0, last + 1))?;
+        let (id, uri) = &self.extensions[last];
+        Some(Place::Extension { id: *id, uri: uri.clone() })
     }
 }
 

@@ -1,7 +1,8 @@
 //! Ends that send samples and receive units.
 
-use crate::error::{code, done, EndError};
-use crate::params::{handed_out, Received, Row, StreamParams, Unit};
+use crate::error::{Reason, code};
+use crate::params::{Received, Row, StreamParams, Unit, handed_out};
+use crate::refused::{EndError, Place, done, done_at, done_of};
 use crate::sys;
 use crate::values::Values;
 use std::ptr;
@@ -15,12 +16,32 @@ pub(crate) fn fetched(mut call: impl FnMut(*mut u8, usize, &mut usize) -> u32) -
     bytes
 }
 
-/// An end of a session. It may move to another thread, as all handles of this crate, but isn't shared between threads:
+/// An end of a session: what it offers, what it agreed on with the other end, and its streams.
+///
+/// ```
+/// use jilqamur::{Direction, End, Kind, MIN_HELD, Received, Section, StreamParams};
+/// let mut a = End::builder().codec("opus", 111).session(1).build()?;
+/// let mut b = End::builder().codec("opus", 111).session(2).build()?;
+/// let audio = |ssrcs| Section { mid: "0", kind: Kind::Audio, direction: Direction::SendRecv, ssrcs, repairs: &[] };
+/// let offer = a.offer(&[audio(&[44])])?; // the two texts are all that travels
+/// let answer = b.answer(&offer, &[audio(&[45])])?;
+/// a.accept(&answer)?;
+/// let sender = a.open_sender("0", 44, 111, StreamParams::new(1000, 1200, 1400), None)?;
+/// let receiver = b.open_receiver("0", 44, 111, 2, MIN_HELD)?;
+/// for datagram in a.sender(sender).push_sample(960, &[1, 2, 3])? {
+///     assert_eq!(b.receive(&datagram)?, Received::Taken(receiver, 1000));
+/// }
+/// assert_eq!(b.receiver(receiver).poll()?.expect("a unit").bytes, [1, 2, 3]);
+/// # Ok::<(), jilqamur::EndError>(())
+/// ```
+///
+/// It may move to another thread, as all handles of this crate, but isn't shared between threads:
 ///
 /// ```compile_fail
 /// fn shared<T: Sync>() {}
 /// shared::<jilqamur::End>();
 /// ```
+#[derive(Debug)]
 pub struct End(pub(crate) sys::Handle);
 
 impl End {
@@ -35,21 +56,23 @@ impl End {
         Ok(End(end))
     }
 
-    /// Puts a row into the draft: a codec's name, and what stands behind the type in its `a=fmtp` line.
+    /// Puts a row into the draft: a codec's name, and what follows the type in its `a=fmtp` line.
     ///
     /// # Errors
     /// `OutOfRange` or `Memory`; nothing has changed.
     pub fn row(&mut self, row: &Row, codec: &str, format: &str) -> Result<(), EndError> {
         // SAFETY: the handle is open, and pointers and lengths are those of one slice each.
-        done(unsafe {
-            sys::jilqamur_end_row(self.0.raw(),
+        let answer = unsafe {
+            sys::jilqamur_end_row(
+                self.0.raw(),
                 row,
                 codec.as_ptr(),
                 codec.len(),
                 format.as_ptr(),
                 format.len(),
             )
-        })
+        };
+        done_at(answer, || Place::row(codec, row.payload_type()))
     }
 
     /// Puts the default rows of Opus, VP8, H.264, H.265, VP9 and AV1 into the draft.
@@ -67,7 +90,8 @@ impl End {
     /// `OutOfRange` or `Memory`; nothing has changed.
     pub fn extension(&mut self, id: u8, uri: &str) -> Result<(), EndError> {
         // SAFETY: the handle is open, and pointer and length are those of one slice.
-        done(unsafe { sys::jilqamur_end_extension(self.0.raw(), id, uri.as_ptr(), uri.len()) })
+        let answer = unsafe { sys::jilqamur_end_extension(self.0.raw(), id, uri.as_ptr(), uri.len()) };
+        done_at(answer, || Place::Extension { id, uri: uri.into() })
     }
 
     /// Makes a new end of the draft, which is empty afterwards, under this session number.
@@ -97,8 +121,9 @@ impl End {
         let distances = distances.unwrap_or(&[]);
         let mut stream = 0;
         // SAFETY: the handle is open, and pointers and lengths are those of one slice each.
-        done(unsafe {
-            sys::jilqamur_end_open_sender(self.0.raw(),
+        let answer = unsafe {
+            sys::jilqamur_end_open_sender(
+                self.0.raw(),
                 mid.as_ptr(),
                 mid.len(),
                 ssrc,
@@ -108,7 +133,8 @@ impl End {
                 distances.len(),
                 &mut stream,
             )
-        })?;
+        };
+        done_at(answer, || Place::opening(mid, ssrc, payload_type))?;
         Ok(stream)
     }
 
@@ -117,7 +143,7 @@ impl End {
     /// [`MAX_HELD`](crate::MAX_HELD).
     ///
     /// # Errors
-    /// As [`End::open_sender`]; `OutOfRange` where `held` is another number.
+    /// As [`End::open_sender`]; `OutOfRange` if `held` is another number.
     pub fn open_receiver(
         &mut self,
         mid: &str,
@@ -128,8 +154,9 @@ impl End {
     ) -> Result<usize, EndError> {
         let mut stream = 0;
         // SAFETY: the handle is open, and pointer and length are those of one slice.
-        done(unsafe {
-            sys::jilqamur_end_open_receiver(self.0.raw(),
+        let answer = unsafe {
+            sys::jilqamur_end_open_receiver(
+                self.0.raw(),
                 mid.as_ptr(),
                 mid.len(),
                 ssrc,
@@ -138,11 +165,12 @@ impl End {
                 held,
                 &mut stream,
             )
-        })?;
+        };
+        done_at(answer, || Place::opening(mid, ssrc, payload_type))?;
         Ok(stream)
     }
 
-    /// The datagrams of a sample at a time in ticks of the row's clock; they carry the section's name where it is given
+    /// The datagrams of a sample at a time in ticks of the row's clock; they carry the section's name if it is given
     /// and the agreed map has a number for it.
     ///
     /// # Errors
@@ -170,12 +198,12 @@ impl End {
         mid: Option<&str>,
         values: &Values,
     ) -> Result<Datagrams<'_>, EndError> {
-        let mid = mid.unwrap_or("");
-        let values = values.given();
+        let (mid, values) = (mid.unwrap_or(""), values.given());
         let mut count = 0;
         // SAFETY: the handle is open, and pointers and lengths are those of one slice each.
-        done(unsafe {
-            sys::jilqamur_end_push_sample(self.0.raw(),
+        let answer = unsafe {
+            sys::jilqamur_end_push_sample(
+                self.0.raw(),
                 stream,
                 ticks,
                 &values,
@@ -185,7 +213,8 @@ impl End {
                 sample.len(),
                 &mut count,
             )
-        })?;
+        };
+        done_of(answer, stream)?;
         Ok(Datagrams { end: self, next: 0, count })
     }
 
@@ -196,7 +225,8 @@ impl End {
     /// Nothing has changed.
     pub fn repair(&mut self, stream: usize, datagram: &[u8]) -> Result<Vec<u8>, EndError> {
         // SAFETY: the handle is open, and pointer and length are those of one slice.
-        done(unsafe { sys::jilqamur_end_repair(self.0.raw(), stream, datagram.as_ptr(), datagram.len()) })?;
+        let answer = unsafe { sys::jilqamur_end_repair(self.0.raw(), stream, datagram.as_ptr(), datagram.len()) };
+        done_of(answer, stream)?;
         Ok(fetched(|buffer, len, needed| {
             // SAFETY: the handle is open, and pointer and length are those of one slice.
             unsafe { sys::jilqamur_end_datagram(self.0.raw(), 0, buffer, len, needed) }
@@ -211,7 +241,8 @@ impl End {
         let (mut stream, mut number) = (0, 0);
         // SAFETY: the handle is open, and pointer and length are those of one slice.
         let answer = unsafe {
-            sys::jilqamur_end_receive(self.0.raw(),
+            sys::jilqamur_end_receive(
+                self.0.raw(),
                 datagram.as_ptr(),
                 datagram.len(),
                 &mut stream,
@@ -224,18 +255,18 @@ impl End {
             code::DAMAGED => Ok(Received::Damaged),
             code::REFUSED => Ok(Received::Refused),
             code::FOREIGN => Ok(Received::Foreign),
-            _ => Err(EndError::of(answer)),
+            _ => Err(EndError::new(Reason::of(answer), None)),
         }
     }
 
-    /// The next unit of a receiving stream, where one is ready.
+    /// The next unit of a receiving stream, if one is ready.
     ///
     /// # Errors
-    /// `NotMade` or `NoStream`; `Payload`, and the frame is done with; or `Memory`, and it stays.
+    /// `NotMade` or `NoStream`; `Payload`, and the frame is passed over; or `Memory`, and it stays.
     pub fn poll(&mut self, stream: usize) -> Result<Option<Unit>, EndError> {
         // SAFETY: the handle is open.
         let answer = unsafe { sys::jilqamur_end_poll(self.0.raw(), stream) };
-        handed_out(&self.0, answer, done, sys::jilqamur_end_unit)
+        handed_out(&self.0, answer, |answer| done_of(answer, stream), sys::jilqamur_end_unit)
     }
 
     /// The same, whether or not a datagram before the lowest complete unit is missing: for the end of a stream.
@@ -245,7 +276,7 @@ impl End {
     pub fn drain(&mut self, stream: usize) -> Result<Option<Unit>, EndError> {
         // SAFETY: the handle is open.
         let answer = unsafe { sys::jilqamur_end_drain(self.0.raw(), stream) };
-        handed_out(&self.0, answer, done, sys::jilqamur_end_unit)
+        handed_out(&self.0, answer, |answer| done_of(answer, stream), sys::jilqamur_end_unit)
     }
 
     /// All units of a receiving stream that are ready, and faults between them.
@@ -256,7 +287,10 @@ impl End {
                 return None;
             }
             let unit = self.poll(stream).transpose();
-            is_over = !matches!(unit, Some(Ok(_) | Err(EndError::Payload)));
+            is_over = match &unit {
+                Some(Err(refused)) => refused.reason() != Reason::Payload,
+                unit => unit.is_none(),
+            };
             unit
         })
     }
@@ -279,6 +313,21 @@ impl Drop for End {
 }
 
 /// The datagrams of a sample, in order.
+///
+/// ```
+/// use jilqamur::{Direction, End, Kind, Section, StreamParams};
+/// # let mut a = End::builder().codec("opus", 111).session(1).build()?;
+/// # let mut b = End::builder().codec("opus", 111).session(2).build()?;
+/// # let audio = |ssrcs| Section { mid: "0", kind: Kind::Audio, direction: Direction::SendRecv, ssrcs, repairs: &[] };
+/// # let offer = a.offer(&[audio(&[44])])?;
+/// # let answer = b.answer(&offer, &[audio(&[45])])?;
+/// # a.accept(&answer)?;
+/// # let stream = a.open_sender("0", 44, 111, StreamParams::new(1000, 1200, 1400), None)?;
+/// let datagrams = a.push_sample(stream, 0, &[1; 2000], None)?;
+/// assert_eq!(datagrams.len(), 2); // of at most 1,200 bytes of payload each
+/// # Ok::<(), jilqamur::EndError>(())
+/// ```
+#[derive(Debug)]
 pub struct Datagrams<'a> {
     end: &'a mut End,
     next: usize,

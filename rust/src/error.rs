@@ -71,9 +71,18 @@ pub(crate) mod code {
 }
 
 /// Why a call of an end or a stream is refused, by the number that `include/jilqamur.h` gives it.
+///
+/// ```
+/// use jilqamur::{End, Reason};
+/// let mut end = End::new()?;
+/// let refused = end.accept("v=0").expect_err("there is no end yet");
+/// assert_eq!(refused.reason(), Reason::NotMade);
+/// assert_eq!(Reason::NotMade.to_string(), "the end was not made yet");
+/// # Ok::<(), jilqamur::EndError>(())
+/// ```
 #[derive(Clone, Copy, Debug, PartialEq, Eq)]
 #[non_exhaustive]
-pub enum EndError {
+pub enum Reason {
     /// Out of memory.
     Memory,
     /// A number is off the range that is written at it.
@@ -84,7 +93,7 @@ pub enum EndError {
     NoStream,
     /// A row is of a kind that an end can't agree on.
     RowNotPlain,
-    /// A payload type stands for two things.
+    /// A payload type means two things.
     TypesNotDistinct,
     /// The text of an offer or an answer, or a header extension's URI, can't be written.
     NotWritable,
@@ -154,68 +163,62 @@ pub enum EndError {
     NoPayload,
 }
 
-/// Each refusal with its number and what it means.
-const REFUSALS: [(u32, EndError, &str); 39] = [
-    (code::MEMORY, EndError::Memory, "out of memory"),
-    (code::OUT_OF_RANGE, EndError::OutOfRange, "a number is out of range"),
-    (code::NOT_MADE, EndError::NotMade, "the end was not made yet"),
-    (code::NO_STREAM, EndError::NoStream, "no such stream is open"),
-    (code::ROW_NOT_PLAIN, EndError::RowNotPlain, "a row is not plain"),
-    (code::TYPES_NOT_DISTINCT, EndError::TypesNotDistinct, "a payload type stands for two things"),
-    (code::NOT_WRITABLE, EndError::NotWritable, "the text can't be written"),
-    (code::TEXT_UNREADABLE, EndError::TextUnreadable, "the text can't be read"),
-    (code::OUT_OF_TURN, EndError::OutOfTurn, "this call is out of turn"),
-    (code::NOT_MEDIA, EndError::NotMedia, "a section is no media"),
-    (code::NOT_CORRESPONDING, EndError::NotCorresponding, "the sections do not correspond"),
-    (code::ROUND, EndError::Round, "the rows can't be settled"),
-    (code::NO_COMMON_ROW, EndError::NoCommonRow, "a section would list no row"),
-    (code::NO_SECTION, EndError::NoSection, "no such section is agreed"),
-    (code::ROW_NOT_AGREED, EndError::RowNotAgreed, "no row of this type is agreed"),
-    (code::ROW_DIFFERS, EndError::RowDiffers, "the end's own row differs from the agreed one"),
-    (code::WRONG_DIRECTION, EndError::WrongDirection, "the section does not flow this way"),
-    (code::SSRC_NOT_NAMED, EndError::SsrcNotNamed, "the sender's section does not name this SSRC"),
-    (code::ALREADY_OPEN, EndError::AlreadyOpen, "such a stream is open already"),
-    (code::STREAM_FAILED, EndError::StreamFailed, "the stream sends no more"),
-    (code::TIME_TOO_LARGE, EndError::TimeTooLarge, "the time is too large"),
-    (code::LIMIT_TOO_SMALL, EndError::LimitTooSmall, "a datagram would pass the limit"),
-    (code::PAYLOAD, EndError::Payload, "the payload is refused"),
-    (code::NO_REPAIR, EndError::NoRepair, "the stream has no pair for repairs"),
-    (code::NOT_OWN, EndError::NotOwn, "the stream did not send this datagram"),
-    (code::REST_UNREAD, EndError::RestUnread, "the text has a rest that can't be read"),
-    (code::MID_NOT_KEPT, EndError::MidNotKept, "the name of a section can't be kept"),
-    (code::MID_TWICE, EndError::MidTwice, "two sections have one name"),
-    (code::SECTION_REJECTED, EndError::SectionRejected, "a section is rejected"),
-    (code::SEVERAL_BUNDLES, EndError::SeveralBundles, "there are several bundles"),
-    (code::OUTSIDE_BUNDLE, EndError::OutsideBundle, "a section is outside of the bundle"),
-    (code::NOTHING_LEFT, EndError::NothingLeft, "no section is left"),
-    (code::KEYS_ALONE, EndError::KeysAlone, "a section has keys and no fingerprint"),
-    (code::UFRAG_NOT_FIT, EndError::UfragNotFit, "the name of ICE doesn't fit"),
-    (code::PASSWORD_NOT_FIT, EndError::PasswordNotFit, "the password of ICE doesn't fit"),
-    (code::SETUP_NOT_FIT, EndError::SetupNotFit, "the setup doesn't fit"),
-    (code::ADDS_REDUNDANCY, EndError::AddsRedundancy, "the stream adds redundancy"),
-    (code::NUMBER_TOO_LARGE, EndError::NumberTooLarge, "the number is too large"),
-    (code::NO_PAYLOAD, EndError::NoPayload, "there is no payload"),
+/// Each reason with its number and what it means.
+const REASONS: [(u32, Reason, &str); 39] = [
+    (code::MEMORY, Reason::Memory, "out of memory"),
+    (code::OUT_OF_RANGE, Reason::OutOfRange, "a number is out of range"),
+    (code::NOT_MADE, Reason::NotMade, "the end was not made yet"),
+    (code::NO_STREAM, Reason::NoStream, "no such stream is open"),
+    (code::ROW_NOT_PLAIN, Reason::RowNotPlain, "a row is not plain"),
+    (code::TYPES_NOT_DISTINCT, Reason::TypesNotDistinct, "a payload type stands for two things"),
+    (code::NOT_WRITABLE, Reason::NotWritable, "the text can't be written"),
+    (code::TEXT_UNREADABLE, Reason::TextUnreadable, "the text can't be read"),
+    (code::OUT_OF_TURN, Reason::OutOfTurn, "this call is out of turn"),
+    (code::NOT_MEDIA, Reason::NotMedia, "a section is no media"),
+    (code::NOT_CORRESPONDING, Reason::NotCorresponding, "the sections do not correspond"),
+    (code::ROUND, Reason::Round, "the rows can't be settled"),
+    (code::NO_COMMON_ROW, Reason::NoCommonRow, "a section would list no row"),
+    (code::NO_SECTION, Reason::NoSection, "no such section is agreed"),
+    (code::ROW_NOT_AGREED, Reason::RowNotAgreed, "no row of this type is agreed"),
+    (code::ROW_DIFFERS, Reason::RowDiffers, "the end's own row differs from the agreed one"),
+    (code::WRONG_DIRECTION, Reason::WrongDirection, "the section does not flow this way"),
+    (code::SSRC_NOT_NAMED, Reason::SsrcNotNamed, "the sender's section does not name this SSRC"),
+    (code::ALREADY_OPEN, Reason::AlreadyOpen, "such a stream is open already"),
+    (code::STREAM_FAILED, Reason::StreamFailed, "the stream sends no more"),
+    (code::TIME_TOO_LARGE, Reason::TimeTooLarge, "the time is too large"),
+    (code::LIMIT_TOO_SMALL, Reason::LimitTooSmall, "a datagram would pass the limit"),
+    (code::PAYLOAD, Reason::Payload, "the payload is refused"),
+    (code::NO_REPAIR, Reason::NoRepair, "the stream has no pair for repairs"),
+    (code::NOT_OWN, Reason::NotOwn, "the stream did not send this datagram"),
+    (code::REST_UNREAD, Reason::RestUnread, "the text has a rest that can't be read"),
+    (code::MID_NOT_KEPT, Reason::MidNotKept, "the name of a section can't be kept"),
+    (code::MID_TWICE, Reason::MidTwice, "two sections have one name"),
+    (code::SECTION_REJECTED, Reason::SectionRejected, "a section is rejected"),
+    (code::SEVERAL_BUNDLES, Reason::SeveralBundles, "there are several bundles"),
+    (code::OUTSIDE_BUNDLE, Reason::OutsideBundle, "a section is outside of the bundle"),
+    (code::NOTHING_LEFT, Reason::NothingLeft, "no section is left"),
+    (code::KEYS_ALONE, Reason::KeysAlone, "a section has keys and no fingerprint"),
+    (code::UFRAG_NOT_FIT, Reason::UfragNotFit, "the name of ICE doesn't fit"),
+    (code::PASSWORD_NOT_FIT, Reason::PasswordNotFit, "the password of ICE doesn't fit"),
+    (code::SETUP_NOT_FIT, Reason::SetupNotFit, "the setup doesn't fit"),
+    (code::ADDS_REDUNDANCY, Reason::AddsRedundancy, "the stream adds redundancy"),
+    (code::NUMBER_TOO_LARGE, Reason::NumberTooLarge, "the number is too large"),
+    (code::NO_PAYLOAD, Reason::NoPayload, "there is no payload"),
 ];
 
-impl EndError {
-    /// The refusal of this number, which is none of those that the types here rule out.
-    pub(crate) fn of(answer: u32) -> EndError {
-        match REFUSALS.iter().find(|(number, ..)| *number == answer) {
-            Some((_, refusal, _)) => *refusal,
+impl Reason {
+    /// The reason of this number, which is none of those that the types here rule out.
+    pub(crate) fn of(answer: u32) -> Reason {
+        match REASONS.iter().find(|(number, ..)| *number == answer) {
+            Some((_, reason, _)) => *reason,
             None => unreachable!("the library answers {answer}"),
         }
     }
 }
 
-impl fmt::Display for EndError {
+impl fmt::Display for Reason {
     fn fmt(&self, f: &mut fmt::Formatter<'_>) -> fmt::Result {
-        let text = REFUSALS.iter().find(|(_, refusal, _)| refusal == self).map_or("", |(.., text)| text);
+        let text = REASONS.iter().find(|(_, reason, _)| reason == self).map_or("", |(.., text)| text);
         f.write_str(text)
     }
-}
-
-impl std::error::Error for EndError {}
-
-pub(crate) fn done(answer: u32) -> Result<(), EndError> {
-    if answer == code::OK { Ok(()) } else { Err(EndError::of(answer)) }
 }

@@ -1,10 +1,16 @@
 //! Offers and answers of ends.
 
-use crate::ends::{fetched, End};
-use crate::error::{code, done, EndError};
+use crate::ends::{End, fetched};
+use crate::error::code;
 use crate::params::{AgreedSection, Direction, Kind, Row, Section};
+use crate::refused::{EndError, Place, done, done_at};
 use crate::sys;
 use std::ptr;
+
+/// The sections of a call, by their mids.
+fn named(sections: &[Section<'_>]) -> Place {
+    Place::Sections(sections.iter().map(|section| section.mid.into()).collect())
+}
 
 impl End {
     fn sections(&mut self, sections: &[Section<'_>]) -> Result<(), EndError> {
@@ -23,7 +29,8 @@ impl End {
             self.repairs(section.repairs)?;
             // SAFETY: the handle is open, and pointers and lengths are those of one slice each.
             done(unsafe {
-                sys::jilqamur_end_section(self.0.raw(),
+                sys::jilqamur_end_section(
+                    self.0.raw(),
                     section.mid.as_ptr(),
                     section.mid.len(),
                     section.kind == Kind::Video,
@@ -56,24 +63,25 @@ impl End {
     /// The text of an offer of these sections (RFC 3264 5); it is then pending.
     ///
     /// # Errors
-    /// `NotMade`, `OutOfRange` where the repairs of a section aren't sound, `OutOfTurn`, `NotCorresponding`,
+    /// `NotMade`, `OutOfRange` if the repairs of a section aren't sound, `OutOfTurn`, `NotCorresponding`,
     /// `NoCommonRow`, `NotWritable` or `Memory`; the end is unchanged.
     pub fn offer(&mut self, sections: &[Section<'_>]) -> Result<String, EndError> {
         self.sections(sections)?;
         // SAFETY: the handle is open.
-        done(unsafe { sys::jilqamur_end_offer(self.0.raw()) })?;
+        done_at(unsafe { sys::jilqamur_end_offer(self.0.raw()) }, || named(sections))?;
         Ok(self.text())
     }
 
     /// The text of the answer to an offer, of these sections (RFC 3264 6); it is then agreed.
     ///
     /// # Errors
-    /// `NotMade`, `OutOfRange` where the repairs of a section aren't sound, `TextUnreadable`, `OutOfTurn`, `NotMedia`,
+    /// `NotMade`, `OutOfRange` if the repairs of a section aren't sound, `TextUnreadable`, `OutOfTurn`, `NotMedia`,
     /// `NotCorresponding`, `Round`, `NoCommonRow`, `NotWritable` or `Memory`; the end is unchanged.
     pub fn answer(&mut self, offer: &str, sections: &[Section<'_>]) -> Result<String, EndError> {
         self.sections(sections)?;
         // SAFETY: the handle is open, and pointer and length are those of one slice.
-        done(unsafe { sys::jilqamur_end_answer(self.0.raw(), offer.as_ptr(), offer.len()) })?;
+        let answer = unsafe { sys::jilqamur_end_answer(self.0.raw(), offer.as_ptr(), offer.len()) };
+        done_at(answer, || named(sections))?;
         Ok(self.text())
     }
 

@@ -1,12 +1,30 @@
 //! Packets that are sent on without putting frames together.
 
 use crate::ends::{End, fetched};
-use crate::error::{EndError, code, done};
+use crate::error::code;
 use crate::params::Received;
+use crate::refused::{EndError, done, done_of};
 use crate::sys;
 use crate::values::Values;
 
 /// How a datagram arrives at a receiving stream of an end.
+///
+/// ```
+/// use jilqamur::{Direction, End, Kind, MIN_HELD, Section, StreamParams};
+/// # let mut a = End::builder().codec("opus", 111).session(1).build()?;
+/// # let mut b = End::builder().codec("opus", 111).session(2).build()?;
+/// # let audio = |ssrcs| Section { mid: "0", kind: Kind::Audio, direction: Direction::SendRecv, ssrcs, repairs: &[] };
+/// # let offer = a.offer(&[audio(&[44])])?;
+/// # let answer = b.answer(&offer, &[audio(&[45])])?;
+/// # a.accept(&answer)?;
+/// # let stream = a.open_sender("0", 44, 111, StreamParams::new(1000, 1200, 1400), None)?;
+/// # let datagram = a.push_sample(stream, 960, &[1, 2, 3], None)?.next().expect("one datagram");
+/// # b.open_receiver("0", 44, 111, 2, MIN_HELD)?;
+/// let arrival = b.arrival(&datagram)?.expect("a stream would take it");
+/// assert_eq!((arrival.low, arrival.timestamp, arrival.payload), (1000, 960, &[1, 2, 3][..]));
+/// assert_eq!(b.take_number(arrival.stream, arrival.low)?, Some(1000));
+/// # Ok::<(), jilqamur::EndError>(())
+/// ```
 #[derive(Clone, Copy, Debug, PartialEq, Eq)]
 pub struct Arrival<'a> {
     /// The number of the stream.
@@ -24,6 +42,22 @@ pub struct Arrival<'a> {
 }
 
 /// A packet as a sending stream sends it on.
+///
+/// ```
+/// use jilqamur::{Direction, End, ForwardedPacket, Header, Kind, Section, StreamParams, Values};
+/// # let mut a = End::builder().codec("opus", 111).session(1).build()?;
+/// # let mut b = End::builder().codec("opus", 111).session(2).build()?;
+/// # let audio = |ssrcs| Section { mid: "0", kind: Kind::Audio, direction: Direction::SendRecv, ssrcs, repairs: &[] };
+/// # let offer = a.offer(&[audio(&[44])])?;
+/// # let answer = b.answer(&offer, &[audio(&[45])])?;
+/// # a.accept(&answer)?;
+/// # let stream = a.open_sender("0", 44, 111, StreamParams::new(1000, 1200, 1400), None)?;
+/// let packet = ForwardedPacket { number: 2000, timestamp: 960, marker: true, payload: &[1, 2, 3] };
+/// let datagram = a.sender(stream).send_packet(&packet, &Values::default(), None)?;
+/// let (header, payload) = Header::read(&datagram).expect("a header");
+/// assert_eq!((header.ssrc, header.sequence_number, payload), (44, 2000, &[1, 2, 3][..]));
+/// # Ok::<(), jilqamur::EndError>(())
+/// ```
 #[derive(Clone, Copy, Debug, PartialEq, Eq)]
 pub struct ForwardedPacket<'a> {
     /// The sequence number, 64 bits wide, below 2^62.
@@ -87,11 +121,11 @@ impl End {
         if answer == code::REFUSED {
             return Ok(None);
         }
-        done(answer)?;
+        done_of(answer, stream)?;
         Ok(Some(number))
     }
 
-    /// One packet of another stream as a datagram of a sending stream, with the values that are given, and the section's
+    /// One packet of another stream as a datagram of a sending stream, with the values that are given and the section's
     /// mid if it is given, each if the agreed map has an id for it. Numbers may come in any order; the stream's samples
     /// are numbered above them.
     ///
@@ -107,7 +141,7 @@ impl End {
     ) -> Result<Vec<u8>, EndError> {
         let (mid, values) = (mid.unwrap_or(""), values.given());
         // SAFETY: the handle is open, and pointers and lengths are those of one slice each.
-        done(unsafe {
+        let answer = unsafe {
             sys::jilqamur_end_send_packet(
                 self.0.raw(),
                 stream,
@@ -120,7 +154,8 @@ impl End {
                 packet.payload.as_ptr(),
                 packet.payload.len(),
             )
-        })?;
+        };
+        done_of(answer, stream)?;
         Ok(fetched(|buffer, len, needed| {
             // SAFETY: the handle is open, and pointer and length are those of one slice.
             unsafe { sys::jilqamur_end_datagram(self.0.raw(), 0, buffer, len, needed) }
@@ -129,6 +164,14 @@ impl End {
 }
 
 /// The number and timestamp under which a packet is sent on.
+///
+/// ```
+/// use jilqamur::{Forwarder, Placed};
+/// let mut forwarder = Forwarder::new(1)?;
+/// forwarder.switch(7, 500, 90_000, 3000)?;
+/// assert_eq!(forwarder.place(7, 500, 90_000), Some(Placed { number: 1, timestamp: 3000 }));
+/// # Ok::<(), jilqamur::EndError>(())
+/// ```
 #[repr(C)]
 #[derive(Clone, Copy, Debug, Default, PartialEq, Eq)]
 pub struct Placed {
@@ -142,16 +185,15 @@ pub struct Placed {
 /// distances, and each piece of a source begins above the numbers that were given before. Packets that come late are
 /// sent on where they belong, as long as the last 64 pieces are kept. A source is any number that its user gives it.
 ///
-/// ```no_run
-/// # fn main() -> Result<(), jilqamur::EndError> {
+/// ```
 /// let mut forwarder = jilqamur::Forwarder::new(1)?;
 /// forwarder.switch(7, 500, 90_000, 3_000)?;
 /// let placed = forwarder.forward(7, 502, 93_000).expect("it is sent on");
 /// assert_eq!((placed.number, placed.timestamp), (3, 6_000));
 /// assert_eq!(forwarder.next(), 4);
-/// # Ok(())
-/// # }
+/// # Ok::<(), jilqamur::EndError>(())
 /// ```
+#[derive(Debug)]
 pub struct Forwarder(sys::Handle);
 
 impl Forwarder {

@@ -1,13 +1,13 @@
 //! RTP headers, padding, sequence numbers and replay windows (RFC 3550), packetizers and depacketizers by codec, ends
 //! that exchange offers and answers, send samples and receive units, and streams by codec, from a proved library.
 //!
-//! A sample is the codec's bytes of a frame or an audio packet: of AV1 the OBUs of a temporal unit, of which the last
-//! alone may have no size; of H.264, H.265 and H.266 an access unit with start codes, not lengths; of AMR-WB a header
-//! byte and the speech (RFC 4867 5.3). Units come out in the same forms: each OBU with its size, each NAL unit behind
+//! A sample is the codec's bytes of a frame or an audio packet: of AV1 the OBUs of a temporal unit, of which only the
+//! last may have no size; of H.264, H.265 and H.266 an access unit with start codes, not lengths; of AMR-WB a header
+//! byte and the speech (RFC 4867 5.3). Units come out in the same forms: each OBU with its size, each NAL unit after
 //! `00 00 00 01`.
 //!
-//! Handles ([`End`], [`Window`], [`Sender`] and the others) are `Send` and not `Sync`: one may move to another thread, and
-//! has one call at a time; handles share nothing with each other.
+//! Handles ([`End`], [`Window`], [`Sender`] and the others) are `Send` and not `Sync`: one may move to another thread,
+//! and has one call at a time; handles share nothing with each other.
 
 use crate::error::code;
 use std::fmt;
@@ -22,6 +22,8 @@ mod numbers;
 mod packet_info;
 mod params;
 mod payloads;
+mod refused;
+mod stream_handles;
 mod streams;
 mod sys;
 mod values;
@@ -29,13 +31,15 @@ mod values;
 pub use browsers::{Remote, Setup, Transport, Wish};
 pub use builder::Builder;
 pub use ends::{Datagrams, End};
-pub use error::EndError;
+pub use error::Reason;
 pub use forwarding::{Arrival, Forwarder, ForwardedPacket, Placed};
 pub use packet_info::PacketInfo;
 pub use params::{
     AgreedSection, Direction, Kind, Received, Row, Section, StreamParams, TelephoneEvent, Unit,
 };
 pub use payloads::{Depacketizer, Fault, Packet, Packetizer, PacketizerParams};
+pub use refused::{EndError, Place};
+pub use stream_handles::{ReceivingStream, SendingStream};
 pub use streams::{Format, Receiver, Sender, SenderParams};
 pub use values::{ExtensionIds, Names, Values};
 
@@ -46,12 +50,18 @@ pub const MIN_HELD: usize = 4096;
 pub const MAX_HELD: usize = 16384;
 
 /// Why a call is refused.
+///
+/// ```
+/// use jilqamur::{Error, Header};
+/// assert_eq!(Header::read(&[0x80]), Err(Error::Unreadable));
+/// assert_eq!(Header::default().write(&mut [0; 4]), Err(Error::TooSmall(12)));
+/// ```
 #[derive(Clone, Copy, Debug, PartialEq, Eq)]
 #[non_exhaustive]
 pub enum Error {
     /// Out of memory.
     Memory,
-    /// No RTP header stands in front of the bytes.
+    /// The bytes begin with no RTP header.
     Unreadable,
     /// The padding does not fit.
     Damaged,
@@ -82,10 +92,21 @@ impl fmt::Display for Error {
 impl std::error::Error for Error {}
 
 /// The header of an RTP packet, without the values of its extensions.
+///
+/// ```
+/// use jilqamur::Header;
+/// let header = Header { marker: true, payload_type: 96, sequence_number: 7, ssrc: 44, ..Header::default() };
+/// let mut datagram = [0; 15];
+/// assert_eq!(header.write(&mut datagram)?, 12);
+/// let (read, rest) = Header::read(&datagram)?;
+/// assert_eq!((read.sequence_number, read.ssrc), (7, 44));
+/// assert_eq!(read.payload(rest)?, [0, 0, 0]);
+/// # Ok::<(), jilqamur::Error>(())
+/// ```
 #[repr(C)]
 #[derive(Clone, Copy, Debug, Default, PartialEq, Eq)]
 pub struct Header {
-    /// Whether padding stands behind the payload.
+    /// Whether padding follows the payload.
     pub has_padding: bool,
     /// Whether there is an extension block; one that is written is empty.
     pub has_extension: bool,
@@ -108,7 +129,7 @@ pub struct Header {
 }
 
 impl Header {
-    /// The header in front of a datagram, and what stands behind it.
+    /// The header of a datagram, and what follows it.
     ///
     /// # Errors
     /// `Unreadable`.
@@ -122,7 +143,7 @@ impl Header {
         Ok((header, &datagram[header.header_len..]))
     }
 
-    /// Writes the header in front of a buffer, and returns its length in bytes.
+    /// Writes the header to the front of a buffer, and returns its length in bytes.
     ///
     /// # Errors
     /// `Unwritable` or `TooSmall`; the buffer is unchanged.
@@ -138,17 +159,17 @@ impl Header {
         }
     }
 
-    /// The payload in what stands behind this header.
+    /// The payload in what follows this header.
     ///
     /// # Errors
     /// `Damaged`.
-    pub fn payload<'a>(&self, behind: &'a [u8]) -> Result<&'a [u8], Error> {
+    pub fn payload<'a>(&self, rest: &'a [u8]) -> Result<&'a [u8], Error> {
         let mut len = 0;
         // SAFETY: pointer and length are those of one slice, and the length is a place of its own.
         let answer = unsafe {
-            sys::jilqamur_payload_unpad(self.has_padding, behind.as_ptr(), behind.len(), &mut len)
+            sys::jilqamur_payload_unpad(self.has_padding, rest.as_ptr(), rest.len(), &mut len)
         };
-        if answer == code::OK { Ok(&behind[..len]) } else { Err(Error::Damaged) }
+        if answer == code::OK { Ok(&rest[..len]) } else { Err(Error::Damaged) }
     }
 }
 
@@ -160,6 +181,16 @@ pub fn widen(previous: u64, low: u16) -> u64 {
 }
 
 /// The replay window of a stream.
+///
+/// ```
+/// use jilqamur::{Error, Window};
+/// let mut window = Window::new()?;
+/// let datagram = [0x80, 96, 0, 7, 0, 0, 0, 0, 0, 0, 0, 44];
+/// assert_eq!(window.receive(&datagram)?, 7);
+/// assert_eq!(window.receive(&datagram), Err(Error::Refused)); // it came before
+/// # Ok::<(), Error>(())
+/// ```
+#[derive(Debug)]
 pub struct Window(sys::Handle);
 
 impl Window {

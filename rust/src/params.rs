@@ -5,7 +5,13 @@ use crate::error::code;
 use crate::sys;
 use std::time::Duration;
 
-/// The numbers of a row: a payload type, and what it stands for.
+/// The numbers of a row: a payload type, and what it means.
+///
+/// ```
+/// use jilqamur::Row;
+/// let row = Row::new(96, 90_000).with_resend(97);
+/// assert_eq!((row.payload_type(), row.resend(), row.red()), (96, Some(97), None));
+/// ```
 #[repr(C)]
 #[derive(Clone, Copy, Debug, Default, PartialEq, Eq)]
 pub struct Row {
@@ -38,19 +44,19 @@ impl Row {
         self.clock_rate
     }
 
-    /// How many channels it has, where it names them.
+    /// How many channels it has, if it names them.
     #[must_use]
     pub fn channels(&self) -> Option<u8> {
         self.has_channels.then_some(self.channels)
     }
 
-    /// The type of its retransmissions, where it has them (RFC 4588).
+    /// The type of its retransmissions, if it has them (RFC 4588).
     #[must_use]
     pub fn resend(&self) -> Option<u8> {
         self.has_resend.then_some(self.resend)
     }
 
-    /// Its RED type, where it has redundancy (RFC 2198).
+    /// Its RED type, if it has redundancy (RFC 2198).
     #[must_use]
     pub fn red(&self) -> Option<u8> {
         self.has_red.then_some(self.red)
@@ -76,6 +82,15 @@ impl Row {
 }
 
 /// Audio or video.
+///
+/// ```
+/// use jilqamur::{Direction, End, Kind, Section};
+/// let mut end = End::builder().codec("VP8", 96).build()?;
+/// let direction = Direction::SendOnly;
+/// let offer = end.offer(&[Section { mid: "v", kind: Kind::Video, direction, ssrcs: &[44], repairs: &[] }])?;
+/// assert!(offer.contains("m=video"));
+/// # Ok::<(), jilqamur::EndError>(())
+/// ```
 #[derive(Clone, Copy, Debug, PartialEq, Eq)]
 pub enum Kind {
     /// Audio.
@@ -85,6 +100,17 @@ pub enum Kind {
 }
 
 /// Which way media flows, as an end sees it.
+///
+/// ```
+/// use jilqamur::{Direction, End, Kind, Section};
+/// let mut a = End::builder().codec("opus", 111).session(1).build()?;
+/// let mut b = End::builder().codec("opus", 111).session(2).build()?;
+/// let audio = |direction| Section { mid: "0", kind: Kind::Audio, direction, ssrcs: &[], repairs: &[] };
+/// let offer = a.offer(&[audio(Direction::SendOnly)])?;
+/// b.answer(&offer, &[audio(Direction::SendRecv)])?;
+/// assert_eq!(b.agreed_sections()[0].direction, Direction::RecvOnly);
+/// # Ok::<(), jilqamur::EndError>(())
+/// ```
 #[derive(Clone, Copy, Debug, PartialEq, Eq)]
 pub enum Direction {
     /// Sends and does not receive.
@@ -110,6 +136,15 @@ impl Direction {
 }
 
 /// A section as an end wants it.
+///
+/// ```
+/// use jilqamur::{Direction, End, Kind, Row, Section};
+/// let mut end = End::builder().row(Row::new(96, 90_000).with_resend(97), "VP8", "").build()?;
+/// let direction = Direction::SendRecv;
+/// let offer = end.offer(&[Section { mid: "v", kind: Kind::Video, direction, ssrcs: &[44], repairs: &[(44, 45)] }])?;
+/// assert!(offer.contains("a=ssrc-group:FID 44 45"));
+/// # Ok::<(), jilqamur::EndError>(())
+/// ```
 #[derive(Clone, Copy, Debug)]
 pub struct Section<'a> {
     /// The name (RFC 5888), of at most 16 bytes, each a letter, a digit or `_`.
@@ -126,6 +161,21 @@ pub struct Section<'a> {
 }
 
 /// A section that an end agreed on.
+///
+/// ```
+/// use jilqamur::{Direction, End, Kind, Section};
+/// # let mut a = End::builder().codec("opus", 111).session(1).build()?;
+/// # let mut b = End::builder().codec("opus", 111).session(2).build()?;
+/// # let audio = |ssrcs| Section { mid: "0", kind: Kind::Audio, direction: Direction::SendRecv, ssrcs, repairs: &[] };
+/// # let offer = a.offer(&[audio(&[44])])?;
+/// # let answer = b.answer(&offer, &[audio(&[45])])?;
+/// # a.accept(&answer)?;
+/// let section = &a.agreed_sections()[0];
+/// let (codec, row) = &section.rows[0];
+/// assert_eq!((section.mid.as_str(), codec.as_str(), row.payload_type()), ("0", "opus", 111));
+/// assert_eq!(section.ssrcs, [45]); // the other end sends under it
+/// # Ok::<(), jilqamur::EndError>(())
+/// ```
 #[derive(Clone, Debug, PartialEq, Eq)]
 pub struct AgreedSection {
     /// The name.
@@ -141,6 +191,19 @@ pub struct AgreedSection {
 }
 
 /// How a sending stream numbers and cuts its samples.
+///
+/// ```
+/// use jilqamur::{Direction, End, Kind, Section, StreamParams};
+/// # let mut a = End::builder().codec("VP8", 96).session(1).build()?;
+/// # let mut b = End::builder().codec("VP8", 96).session(2).build()?;
+/// # let video = |ssrcs| Section { mid: "0", kind: Kind::Video, direction: Direction::SendRecv, ssrcs, repairs: &[] };
+/// # let offer = a.offer(&[video(&[44])])?;
+/// # let answer = b.answer(&offer, &[video(&[45])])?;
+/// # a.accept(&answer)?;
+/// let params = StreamParams::new(1000, 1200, 1400).with_picture_id(1).for_browsers();
+/// a.open_sender("0", 44, 96, params, None)?;
+/// # Ok::<(), jilqamur::EndError>(())
+/// ```
 #[repr(C)]
 #[derive(Clone, Copy, Debug, PartialEq, Eq)]
 pub struct StreamParams {
@@ -187,9 +250,17 @@ impl StreamParams {
 }
 
 /// What an end says of a datagram.
+///
+/// ```
+/// use jilqamur::{End, Received};
+/// let mut end = End::builder().codec("opus", 111).build()?;
+/// assert_eq!(end.receive(&[1, 2])?, Received::Unreadable);
+/// assert_eq!(end.receive(&[0x80; 12])?, Received::Foreign); // no stream is open
+/// # Ok::<(), jilqamur::EndError>(())
+/// ```
 #[derive(Clone, Copy, Debug, PartialEq, Eq)]
 pub enum Received {
-    /// No RTP header stands in front of it.
+    /// It begins with no RTP header.
     Unreadable,
     /// No receiving stream has its SSRC and payload type.
     Foreign,
@@ -202,6 +273,16 @@ pub enum Received {
 }
 
 /// One report of a telephone event (RFC 4733 2.3).
+///
+/// ```
+/// use jilqamur::{Format, MIN_HELD, Receiver, TelephoneEvent};
+/// use std::time::Duration;
+/// let mut receiver = Receiver::new("telephone-event", Format::new(8000), 0, MIN_HELD)?;
+/// receiver.push(1, 160, true, &[5, 0x8a, 3, 0x20])?;
+/// let event = TelephoneEvent { event: 5, end: true, volume: 10, duration: Duration::from_millis(100) };
+/// assert_eq!(receiver.poll()?.expect("a unit").event, Some(event));
+/// # Ok::<(), jilqamur::EndError>(())
+/// ```
 #[derive(Clone, Copy, Debug, PartialEq, Eq)]
 pub struct TelephoneEvent {
     /// The event: 0 to 15 are the keys 0 to 9, *, #, A to D.
@@ -215,6 +296,15 @@ pub struct TelephoneEvent {
 }
 
 /// A video frame or an audio packet.
+///
+/// ```
+/// use jilqamur::{Format, MIN_HELD, Receiver, Unit};
+/// let mut receiver = Receiver::new("opus", Format::new(48_000), 2, MIN_HELD)?;
+/// receiver.push(7, 960, true, &[1, 2, 3])?;
+/// let Unit { first, last, time, bytes, .. } = receiver.poll()?.expect("a unit");
+/// assert_eq!((first, last, time, bytes), (7, 7, 960, vec![1, 2, 3]));
+/// # Ok::<(), jilqamur::EndError>(())
+/// ```
 #[derive(Clone, Debug, PartialEq, Eq)]
 pub struct Unit {
     /// The widened sequence number of its first datagram.
@@ -225,9 +315,9 @@ pub struct Unit {
     pub time: u32,
     /// Whether the codec says that it is a keyframe; VP9 and audio never do.
     pub is_keyframe: bool,
-    /// The picture id, of 7 or 15 bits, where VP8 or VP9 gives one (RFC 7741 4.2, RFC 9628 4.2).
+    /// The picture id, of 7 or 15 bits, if VP8 or VP9 gives one (RFC 7741 4.2, RFC 9628 4.2).
     pub picture_id: Option<u16>,
-    /// The index of the temporal base layer frame, TL0PICIDX, where VP8 gives one (RFC 7741 4.2).
+    /// The index of the temporal base layer frame, TL0PICIDX, if VP8 gives one (RFC 7741 4.2).
     pub base_layer: Option<u8>,
     /// The first report of a packet of telephone events (RFC 4733 2.3).
     pub event: Option<TelephoneEvent>,
@@ -262,7 +352,7 @@ type CopyUnit = unsafe extern "C" fn(*mut sys::RawHandle, *mut u8, usize, *mut u
 pub(crate) fn handed_out<E>(
     handle: &sys::Handle,
     answer: u32,
-    done: fn(u32) -> Result<(), E>,
+    done: impl FnOnce(u32) -> Result<(), E>,
     copy: CopyUnit,
 ) -> Result<Option<Unit>, E> {
     if answer == code::NOTHING {

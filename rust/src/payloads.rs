@@ -2,12 +2,18 @@
 
 use crate::ends::fetched;
 use crate::error::code;
-use crate::params::{handed_out, Unit};
+use crate::params::{Unit, handed_out};
 use crate::streams::Format;
 use crate::sys;
 use std::fmt;
 
 /// Why a packetizer or a depacketizer refuses, by the number that `include/jilqamur.h` gives it.
+///
+/// ```
+/// use jilqamur::{Fault, Format, Packetizer, PacketizerParams};
+/// let refused = Packetizer::new("nothing", Format::new(90_000), PacketizerParams::new()).expect_err("no such codec");
+/// assert_eq!(refused, Fault::OutOfRange);
+/// ```
 #[derive(Clone, Copy, Debug, PartialEq, Eq)]
 #[non_exhaustive]
 pub enum Fault {
@@ -85,6 +91,13 @@ fn done(answer: u32) -> Result<(), Fault> {
 }
 
 /// How a packetizer counts pictures, and which forms it writes.
+///
+/// ```
+/// use jilqamur::{Format, Packetizer, PacketizerParams};
+/// let params = PacketizerParams::new().with_picture_id(1).for_browsers();
+/// Packetizer::new("VP8", Format::new(90_000), params)?;
+/// # Ok::<(), jilqamur::Fault>(())
+/// ```
 #[repr(C)]
 #[derive(Clone, Copy, Debug, Default, PartialEq, Eq)]
 pub struct PacketizerParams {
@@ -114,6 +127,14 @@ impl PacketizerParams {
 }
 
 /// A payload, and the marker of its RTP header.
+///
+/// ```
+/// use jilqamur::{Format, Packet, Packetizer, PacketizerParams};
+/// let mut packetizer = Packetizer::new("VP8", Format::new(90_000), PacketizerParams::new())?;
+/// let packets: Vec<Packet> = packetizer.packetize(1200, &[0x10; 2000])?.collect();
+/// assert!(!packets[0].marker && packets[1].marker); // the last one ends the frame
+/// # Ok::<(), jilqamur::Fault>(())
+/// ```
 #[derive(Clone, Debug, PartialEq, Eq)]
 pub struct Packet {
     /// The payload.
@@ -123,6 +144,15 @@ pub struct Packet {
 }
 
 /// A packetizer.
+///
+/// ```
+/// use jilqamur::{Format, Packet, Packetizer, PacketizerParams};
+/// let mut packetizer = Packetizer::new("VP8", Format::new(90_000), PacketizerParams::new())?;
+/// let packets: Vec<Packet> = packetizer.packetize(1200, &[0x10; 2000])?.collect();
+/// assert_eq!(packets.len(), 2);
+/// # Ok::<(), jilqamur::Fault>(())
+/// ```
+#[derive(Debug)]
 pub struct Packetizer(sys::Handle);
 
 impl Packetizer {
@@ -169,7 +199,20 @@ impl Drop for Packetizer {
     }
 }
 
-/// A depacketizer behind a buffer that puts packets in order.
+/// A depacketizer after a buffer that puts packets in order.
+///
+/// ```
+/// use jilqamur::{Depacketizer, Format, MIN_HELD, Packet, Packetizer, PacketizerParams};
+/// let mut packetizer = Packetizer::new("VP8", Format::new(90_000), PacketizerParams::new())?;
+/// let packets: Vec<Packet> = packetizer.packetize(1200, &[0x10; 2000])?.collect();
+/// let mut depacketizer = Depacketizer::new("VP8", Format::new(90_000), 15, MIN_HELD)?;
+/// for (number, packet) in (70_000..).zip(&packets) {
+///     depacketizer.push(number, 3000, packet.marker, &packet.payload)?;
+/// }
+/// assert_eq!(depacketizer.pop()?.expect("a frame").bytes, [0x10; 2000]);
+/// # Ok::<(), jilqamur::Fault>(())
+/// ```
+#[derive(Debug)]
 pub struct Depacketizer(sys::Handle);
 
 impl Depacketizer {
@@ -196,7 +239,8 @@ impl Depacketizer {
     pub fn push(&mut self, number: u64, timestamp: u32, marker: bool, payload: &[u8]) -> Result<(), Fault> {
         // SAFETY: the handle is open, and pointer and length are those of one slice.
         done(unsafe {
-            sys::jilqamur_depacketizer_push(self.0.raw(),
+            sys::jilqamur_depacketizer_push(
+                self.0.raw(),
                 number,
                 timestamp,
                 marker,
@@ -206,10 +250,10 @@ impl Depacketizer {
         })
     }
 
-    /// The next unit, where one is due.
+    /// The next unit, if one is due.
     ///
     /// # Errors
-    /// Why a packet of the next frame is refused, which is then done with; or `Memory`, and it stays.
+    /// Why a packet of the next frame is refused, and the frame is then passed over; or `Memory`, and it stays.
     pub fn pop(&mut self) -> Result<Option<Unit>, Fault> {
         // SAFETY: the handle is open.
         let answer = unsafe { sys::jilqamur_depacketizer_pop(self.0.raw()) };

@@ -1,11 +1,19 @@
 //! Streams that go by a codec's name, without an end.
 
 use crate::ends::fetched;
-use crate::error::{code, done, EndError};
-use crate::params::{handed_out, Unit};
+use crate::error::code;
+use crate::params::{Unit, handed_out};
+use crate::refused::{EndError, Place, done, done_at};
 use crate::sys;
 
 /// How payloads are read and written, beside their codec.
+///
+/// ```
+/// use jilqamur::{Format, MIN_HELD, Receiver};
+/// let format = Format::new(16_000).with_octet_align(true);
+/// Receiver::new("AMR-WB", format, 2, MIN_HELD)?;
+/// # Ok::<(), jilqamur::EndError>(())
+/// ```
 #[repr(C)]
 #[derive(Clone, Copy, Debug, PartialEq, Eq)]
 pub struct Format {
@@ -43,6 +51,13 @@ impl Format {
 }
 
 /// How a sending stream numbers and cuts its samples.
+///
+/// ```
+/// use jilqamur::{Format, Sender, SenderParams};
+/// let params = SenderParams::new(44, 96, 1200).with_first(1000).with_picture_id(1);
+/// Sender::new("VP8", Format::new(90_000), params)?;
+/// # Ok::<(), jilqamur::EndError>(())
+/// ```
 #[repr(C)]
 #[derive(Clone, Copy, Debug, PartialEq, Eq)]
 pub struct SenderParams {
@@ -99,6 +114,16 @@ impl SenderParams {
 }
 
 /// A sending stream.
+///
+/// ```
+/// use jilqamur::{Format, Header, Sender, SenderParams};
+/// let mut sender = Sender::new("opus", Format::new(48_000), SenderParams::new(44, 111, 1200))?;
+/// let datagrams = sender.push_sample(960, &[1, 2, 3])?;
+/// let (header, payload) = Header::read(&datagrams[0])?;
+/// assert_eq!((header.timestamp, payload), (960, &[1, 2, 3][..]));
+/// # Ok::<(), Box<dyn std::error::Error>>(())
+/// ```
+#[derive(Debug)]
 pub struct Sender(sys::Handle);
 
 impl Sender {
@@ -109,9 +134,10 @@ impl Sender {
     pub fn new(codec: &str, format: Format, params: SenderParams) -> Result<Sender, EndError> {
         let sender = sys::Handle::closed();
         // SAFETY: the handle is closed, and pointer and length are those of one slice.
-        done(unsafe {
+        let answer = unsafe {
             sys::jilqamur_sender_open(sender.raw(), &params, &format, codec.as_ptr(), codec.len())
-        })?;
+        };
+        done_at(answer, || Place::Codec(codec.into()))?;
         Ok(Sender(sender))
     }
 
@@ -124,7 +150,8 @@ impl Sender {
         let mut count = 0;
         // SAFETY: the handle is open, and pointer and length are those of one slice.
         done(unsafe {
-            sys::jilqamur_sender_push_sample(self.0.raw(),
+            sys::jilqamur_sender_push_sample(
+                self.0.raw(),
                 ticks,
                 sample.as_ptr(),
                 sample.len(),
@@ -149,6 +176,20 @@ impl Drop for Sender {
 }
 
 /// A receiving stream.
+///
+/// ```
+/// use jilqamur::{Format, Header, MIN_HELD, Receiver, Sender, SenderParams};
+/// let format = Format::new(90_000);
+/// let mut sender = Sender::new("VP8", format, SenderParams::new(44, 96, 1200))?;
+/// let mut receiver = Receiver::new("VP8", format, 15, MIN_HELD)?;
+/// for datagram in sender.push_sample(3000, &[0x10; 2000])? {
+///     let (header, rest) = Header::read(&datagram)?;
+///     receiver.push(header.sequence_number, header.timestamp, header.marker, header.payload(rest)?)?;
+/// }
+/// assert_eq!(receiver.poll()?.expect("a frame").bytes, [0x10; 2000]);
+/// # Ok::<(), Box<dyn std::error::Error>>(())
+/// ```
+#[derive(Debug)]
 pub struct Receiver(sys::Handle);
 
 impl Receiver {
@@ -161,14 +202,15 @@ impl Receiver {
     pub fn new(codec: &str, format: Format, hold_back: usize, held: usize) -> Result<Receiver, EndError> {
         let receiver = sys::Handle::closed();
         // SAFETY: the handle is closed, and pointer and length are those of one slice.
-        done(unsafe {
+        let answer = unsafe {
             sys::jilqamur_receiver_open(receiver.raw(), &format, codec.as_ptr(), codec.len(), hold_back, held)
-        })?;
+        };
+        done_at(answer, || Place::Codec(codec.into()))?;
         Ok(Receiver(receiver))
     }
 
     /// Takes a packet in, by the low bits of its number, its timestamp, its marker and its payload without padding, and
-    /// returns its widened number; None where that came before, or is 1,024 or more below the greatest.
+    /// returns its widened number; None if that came before, or is 1,024 or more below the greatest.
     ///
     /// # Errors
     /// `Memory`; nothing has changed.
@@ -182,7 +224,8 @@ impl Receiver {
         let mut number = 0;
         // SAFETY: the handle is open, and pointer and length are those of one slice.
         let answer = unsafe {
-            sys::jilqamur_receiver_push(self.0.raw(),
+            sys::jilqamur_receiver_push(
+                self.0.raw(),
                 sequence_number,
                 timestamp,
                 marker,
@@ -198,10 +241,10 @@ impl Receiver {
         Ok(Some(number))
     }
 
-    /// The next unit, where one is ready.
+    /// The next unit, if one is ready.
     ///
     /// # Errors
-    /// `Payload`, and the frame is done with; or `Memory`, and it stays.
+    /// `Payload`, and the frame is passed over; or `Memory`, and it stays.
     pub fn poll(&mut self) -> Result<Option<Unit>, EndError> {
         // SAFETY: the handle is open.
         let answer = unsafe { sys::jilqamur_receiver_poll(self.0.raw()) };

@@ -7,6 +7,7 @@ use crate::payloads::PacketizerParams;
 use crate::streams::{Format, SenderParams};
 use crate::values::ExtensionIds;
 use std::cell::UnsafeCell;
+use std::fmt;
 use std::ptr;
 
 /// A handle of any kind, as the library has it. All bytes of one that is closed may be 0.
@@ -28,6 +29,12 @@ impl Handle {
 
     pub(crate) fn raw(&self) -> *mut RawHandle {
         self.0.get()
+    }
+}
+
+impl fmt::Debug for Handle {
+    fn fmt(&self, f: &mut fmt::Formatter<'_>) -> fmt::Result {
+        f.write_str("..")
     }
 }
 

@@ -5,11 +5,25 @@ use crate::error::code;
 use crate::sys;
 
 /// The values of header extensions (RFC 8285), but the names of sections and streams.
+///
+/// ```
+/// use jilqamur::{Direction, End, Kind, Section, StreamParams, Values};
+/// # let mut a = End::builder().codec("opus", 111).session(1).build()?;
+/// # let mut b = End::builder().codec("opus", 111).session(2).build()?;
+/// # let audio = |ssrcs| Section { mid: "0", kind: Kind::Audio, direction: Direction::SendRecv, ssrcs, repairs: &[] };
+/// # let offer = a.offer(&[audio(&[44])])?;
+/// # let answer = b.answer(&offer, &[audio(&[45])])?;
+/// # a.accept(&answer)?;
+/// # let stream = a.open_sender("0", 44, 111, StreamParams::new(1000, 1200, 1400), None)?;
+/// let values = Values { audio_level: Some(-30), voice_activity: Some(true), ..Values::default() };
+/// a.sender(stream).push_sample_with(960, &[1, 2, 3], Some("0"), &values)?;
+/// # Ok::<(), jilqamur::EndError>(())
+/// ```
 #[derive(Clone, Copy, Debug, Default, PartialEq, Eq)]
 pub struct Values {
-    /// The audio level in dBov, -127 to 0; it is carried with `voice_activity` alone (RFC 6464).
+    /// The audio level in dBov, -127 to 0; it is carried only with `voice_activity` (RFC 6464).
     pub audio_level: Option<i8>,
-    /// Whether the audio has voice; it is carried with `audio_level` alone (RFC 6464).
+    /// Whether the audio has voice; it is carried only with `audio_level` (RFC 6464).
     pub voice_activity: Option<bool>,
     /// When the packet left, in microseconds. It is carried modulo 64 seconds, in units of 2^-18 seconds.
     pub abs_send_time: Option<u64>,
@@ -17,16 +31,16 @@ pub struct Values {
     pub transport_cc: Option<u16>,
     /// How the picture is turned, by the low two bits (3GPP TS 26.114 7.4.5).
     pub video_orientation: Option<u8>,
-    /// The least delay until play, in 10 ms, 0 to 4095; it is carried with `play_delay_max` alone.
+    /// The least delay until play, in 10 ms, 0 to 4095; it is carried only with `play_delay_max`.
     pub play_delay_min: Option<u16>,
-    /// The greatest delay until play, in 10 ms, 0 to 4095; it is carried with `play_delay_min` alone.
+    /// The greatest delay until play, in 10 ms, 0 to 4095; it is carried only with `play_delay_min`.
     pub play_delay_max: Option<u16>,
     /// What the video shows.
     pub video_content_type: Option<u8>,
-    /// When the frame was captured: NTP time, in seconds with 32 bits before and 32 behind the point.
+    /// When the frame was captured: NTP time, in seconds with 32 bits before and 32 after the point.
     pub capture_time: Option<u64>,
-    /// How far the sender's clock is ahead of the capturer's, in seconds with 32 bits behind the point; it is carried
-    /// with `capture_time` alone.
+    /// How far the sender's clock is ahead of the capturer's, in seconds with 32 bits after the point; it is carried
+    /// only with `capture_time`.
     pub clock_offset: Option<i64>,
 }
 
@@ -73,6 +87,18 @@ impl Values {
 }
 
 /// The ids of header extensions (RFC 8285), 1 to 16; 0 for one that has none. Of two with one id the later one has it.
+///
+/// ```
+/// use jilqamur::ExtensionIds;
+/// let datagram = [
+///     0x90, 111, 0, 7, 0, 0, 3, 0xc0, 0, 0, 0, 44, // the header, and then its extensions
+///     0xbe, 0xde, 0, 2, 0x10, 0x9e, 0x31, b'a', b'v', 0x50, b'h', 0,
+/// ];
+/// let ids = ExtensionIds { audio_level: 1, mid: 3, ..ExtensionIds::default() };
+/// let (values, names) = ids.read(&datagram)?;
+/// assert_eq!((values.audio_level, names.mid.as_deref()), (Some(-30), Some("av")));
+/// # Ok::<(), jilqamur::Error>(())
+/// ```
 #[repr(C)]
 #[derive(Clone, Copy, Debug, Default, PartialEq, Eq)]
 pub struct ExtensionIds {
@@ -99,6 +125,17 @@ pub struct ExtensionIds {
 }
 
 /// The names of section and stream that a datagram carries.
+///
+/// ```
+/// use jilqamur::ExtensionIds;
+/// # let datagram = [
+/// #     0x90, 111, 0, 7, 0, 0, 3, 0xc0, 0, 0, 0, 44, // the header, and then its extensions
+/// #     0xbe, 0xde, 0, 2, 0x10, 0x9e, 0x31, b'a', b'v', 0x50, b'h', 0,
+/// # ];
+/// let (_, names) = ExtensionIds { mid: 3, rid: 5, ..ExtensionIds::default() }.read(&datagram)?;
+/// assert_eq!((names.mid.as_deref(), names.rid.as_deref()), (Some("av"), Some("h")));
+/// # Ok::<(), jilqamur::Error>(())
+/// ```
 #[derive(Clone, Debug, Default, PartialEq, Eq)]
 pub struct Names {
     /// The mid (RFC 9143 15).
@@ -114,7 +151,7 @@ fn name(has: bool, bytes: &[u8], len: u8) -> Option<String> {
 }
 
 impl ExtensionIds {
-    /// The values of the header extensions in front of a datagram, read by these ids, and the names of its section and
+    /// The values of the header extensions of a datagram, read by these ids, and the names of its section and
     /// stream.
     ///
     /// # Errors

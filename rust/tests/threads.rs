@@ -35,8 +35,8 @@ fn each_handle_may_be_sent() {
     is_send::<Forwarder>();
 }
 
-/// One end sends on a thread of its own and the other receives on a second one; the receiver then goes back to the first
-/// thread, and is dropped there.
+/// One end sends on a thread of its own and the other receives on a second one; the receiver then goes back to the
+/// first thread, and is dropped there.
 #[test]
 fn an_end_moves_to_a_thread_and_back() -> Result<(), EndError> {
     let (mut a, mut b) = agreed()?;

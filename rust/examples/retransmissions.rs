@@ -1,0 +1,142 @@
+//! What the transport does for lost video: the receiver asks for missing datagrams (NACK, RFC 4585 6.2.1), the sender
+//! repeats them out of a store, and what can't be repaired any more is answered with a key frame (PLI, RFC 4585 6.3.1).
+
+use jilqamur::{Direction, End, EndError, Kind, MIN_HELD, Received, Row, Section, StreamParams};
+use std::collections::{BTreeMap, BTreeSet};
+
+/// The datagrams of the last second, by the low 16 bits of their numbers.
+#[derive(Default)]
+struct Store(BTreeMap<u16, Vec<u8>>);
+
+impl Store {
+    fn keep(&mut self, datagram: &[u8]) {
+        self.0.insert(u16::from_be_bytes([datagram[2], datagram[3]]), datagram.to_vec());
+    }
+
+    /// The retransmissions of what a NACK asks for, as far as it is still kept.
+    fn repairs(&self, end: &mut End, stream: usize, nack: &[u8]) -> Result<Vec<Vec<u8>>, EndError> {
+        asked(nack).iter().filter_map(|low| self.0.get(low)).map(|kept| end.sender(stream).repair(kept)).collect()
+    }
+}
+
+/// The numbers that a receiver misses: those that were skipped, and neither came nor were given up.
+#[derive(Default)]
+struct Missing {
+    next: Option<u64>,
+    numbers: BTreeSet<u64>,
+}
+
+impl Missing {
+    /// A number that was taken, as `Received::Taken` says.
+    fn taken(&mut self, number: u64) {
+        self.numbers.remove(&number);
+        let next = self.next.unwrap_or(number);
+        self.numbers.extend(next..number);
+        self.next = Some(next.max(number + 1));
+    }
+
+    /// A unit was handed out up to this number: what is missing before it is of no use any more.
+    fn handed_out(&mut self, last: u64) {
+        self.numbers = self.numbers.split_off(&last);
+    }
+}
+
+/// A packet of RTCP feedback (RFC 4585 6.1): its format and type, the own SSRC, the SSRC of the media, and the rest.
+fn feedback(format: u8, kind: u8, own: u32, media: u32, rest: &[u8]) -> Vec<u8> {
+    let words = (2 + rest.len() / 4) as u16;
+    let head = [0x80 | format, kind, (words >> 8) as u8, words as u8];
+    [&head, &own.to_be_bytes()[..], &media.to_be_bytes(), rest].concat()
+}
+
+/// Asks for datagrams, each with an entry of its own.
+fn nack(own: u32, media: u32, missing: &Missing) -> Vec<u8> {
+    let entry = |number: &u64| [(number >> 8) as u8, *number as u8, 0, 0];
+    feedback(1, 205, own, media, &missing.numbers.iter().flat_map(entry).collect::<Vec<u8>>())
+}
+
+/// The numbers that a NACK asks for: of each entry its number, and those of the 16 after it whose bits are set.
+fn asked(nack: &[u8]) -> Vec<u16> {
+    let entries = nack.get(12..).unwrap_or_default().chunks_exact(4);
+    let numbers = |entry: &[u8]| {
+        let (low, bits) = (u16::from_be_bytes([entry[0], entry[1]]), u16::from_be_bytes([entry[2], entry[3]]));
+        (0..17).filter(move |k| *k == 0 || bits >> (k - 1) & 1 == 1).map(move |k| low.wrapping_add(k))
+    };
+    entries.flat_map(numbers).collect()
+}
+
+/// Asks for a key frame.
+fn pli(own: u32, media: u32) -> Vec<u8> {
+    feedback(1, 206, own, media, &[])
+}
+
+/// Whether units may be shown: not from a hole on to the next key frame.
+#[derive(Default)]
+struct Picture {
+    last: Option<u64>,
+    waits: bool,
+}
+
+impl Picture {
+    /// Whether to show a unit; if not, ask for a key frame.
+    fn shows(&mut self, first: u64, last: u64, is_keyframe: bool) -> bool {
+        let has_hole = self.last.is_none_or(|before| first != before + 1);
+        self.waits = !is_keyframe && (self.waits || has_hole);
+        self.last = Some(last);
+        !self.waits
+    }
+}
+
+/// Two ends that agree on VP8 with retransmissions, under SSRC 45 of what SSRC 44 sends; both streams are number 0.
+fn agreed() -> Result<(End, End), EndError> {
+    let vp8 = |session| End::builder().row(Row::new(96, 90_000).with_resend(97), "VP8", "").session(session).build();
+    let direction = Direction::SendRecv;
+    let (mut a, mut b) = (vp8(1)?, vp8(2)?);
+    let of_a = Section { mid: "0", kind: Kind::Video, direction, ssrcs: &[44], repairs: &[(44, 45)] };
+    let of_b = Section { mid: "0", kind: Kind::Video, direction, ssrcs: &[46], repairs: &[(46, 47)] };
+    let offer = a.offer(&[of_a])?;
+    let answer = b.answer(&offer, &[of_b])?;
+    a.accept(&answer)?;
+    a.open_sender("0", 44, 96, StreamParams::new(1000, 500, 700), None)?;
+    b.open_receiver("0", 44, 96, 2, MIN_HELD)?;
+    Ok((a, b))
+}
+
+/// Takes a datagram, and shows what is due; the answer is whether a key frame is wanted.
+fn receive(b: &mut End, datagram: &[u8], missing: &mut Missing, picture: &mut Picture) -> Result<bool, EndError> {
+    let Received::Taken(stream, number) = b.receive(datagram)? else { return Ok(false) };
+    missing.taken(number);
+    for unit in b.receiver(stream).units() {
+        let unit = unit?;
+        missing.handed_out(unit.last);
+        let shows = picture.shows(unit.first, unit.last, unit.is_keyframe);
+        println!("at {}: {}", unit.time, if shows { "shown" } else { "waits for a key frame" });
+    }
+    Ok(picture.waits)
+}
+
+fn main() -> Result<(), EndError> {
+    let (mut a, mut b) = agreed()?;
+    let (mut store, mut missing, mut picture) = (Store::default(), Missing::default(), Picture::default());
+    let mut wants_key = true;
+    for k in 0..10_u64 {
+        let tag = if wants_key { 0x10 } else { 0x11 }; // the first bit of a VP8 frame: 0 for a key frame
+        let datagrams: Vec<Vec<u8>> = a.sender(0).push_sample(3000 * k, &[tag; 900])?.collect();
+        for (place, datagram) in datagrams.iter().enumerate() {
+            store.keep(datagram);
+            if k % 4 != 1 || place != 0 {
+                wants_key = receive(&mut b, datagram, &mut missing, &mut picture)?; // else it is lost on the way
+            }
+        }
+        if k == 5 {
+            store.0.clear(); // as if more than a second had passed
+        }
+        for repair in store.repairs(&mut a, 0, &nack(46, 44, &missing))? {
+            println!("at {}: repaired", 3000 * k);
+            wants_key = receive(&mut b, &repair, &mut missing, &mut picture)?;
+        }
+        if wants_key {
+            println!("at {}: PLI of {} bytes", 3000 * k, pli(46, 44).len());
+        }
+    }
+    Ok(())
+}
