@@ -169,7 +169,7 @@ func TestABrowserIsAnswered(t *testing.T) {
 		t.Fatal(err)
 	}
 	equal(t, must[Remote](t)(a.Remote()), Remote{Ufrag: "abcd", Password: transport.Password,
-		Fingerprint: "sha-256 AB:CD", Setup: Some(Passive), Lite: true})
+		Fingerprint: "sha-256 AB:CD", Setup: Some(Passive), OwnSetup: Some(Active), Trickling: true, Lite: true})
 	equal(t, must[Remote](t)(b.Remote()).OwnSetup, Some(Passive))
 	_, err := b.AnswerBrowser(offer, Wish{Reject: true})
 	refused(t, err, ErrNothingLeft)
