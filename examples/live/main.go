@@ -1,5 +1,5 @@
-// Calls of browsers over the Go package: an echo of a camera, and a room of several browsers. Pion carries ICE, DTLS and
-// SRTP, only on the loopback; the media path is the library for C.
+// Calls of browsers over the Go package: an echo of a camera, and a room of several browsers. Pion carries ICE, DTLS
+// and SRTP, only on the loopback; the media path is the library for C.
 package main
 
 import (
@@ -47,8 +47,9 @@ func serve(command string, words []string) error {
 	page := flags.String("page", ".", "the folder of page.html and page.js")
 	log := flags.String("journal", "", "a file for what happens, which the command picture draws")
 	record := flags.String("record", "", "a folder for what arrives, as lines of hexadecimal, and for session texts")
-	browsers := flags.Int("browsers", 1, "how many browsers a run with -seconds waits for")
-	seconds := flags.Float64("seconds", 0, "how long they talk; 0 for until they leave")
+	browsers := flags.Int("browsers", 1, "how many browsers a run waits for")
+	seconds := flags.Float64("seconds", 0, "how long they then talk; 0 for until they leave")
+	wanted := flags.Int("results", 0, "how many results to wait for, of a run with -seconds; 0 for one of each browser")
 	r := &room{isBridge: command == "bridge", peers: map[int]*peer{}}
 	r.impairment.flags(flags)
 	flags.Parse(words)
@@ -67,7 +68,10 @@ func serve(command string, words []string) error {
 	fmt.Printf("http://%s/\n", listener.Addr())
 	go r.tend()
 	go http.Serve(listener, s)
-	for count := 0; *seconds == 0 || count < *browsers; count++ {
+	if *wanted == 0 {
+		*wanted = *browsers
+	}
+	for count := 0; *seconds == 0 || count < *wanted; count++ {
 		fmt.Printf("%s\n", <-s.results)
 	}
 	return nil

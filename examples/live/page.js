@@ -3,10 +3,10 @@ const asked = new URLSearchParams(location.search);
 const byId = (id) => document.getElementById(id);
 const pause = (time) => new Promise((resolve) => setTimeout(resolve, time));
 const about = {
-  echo: 'The program takes your camera apart into frames, and sends each frame back. What is lost on the way is asked for ' +
-    'again. Both pictures should show the same.',
-  bridge: 'The program sends each packet on to the others in this room, under numbers of their own. Open this page in a ' +
-    'second window. What is lost on the way is asked for again on each hop.',
+  echo: 'The program puts the frames of your camera together, and sends each frame back. What is lost on the way is ' +
+    'asked for again. Both pictures should show the same.',
+  bridge: 'The program sends each packet on to the others in this room, under numbers of their own. Open this page ' +
+    'in a second window. What is lost on the way is asked for again on each hop.',
 };
 const rows = [
   ['sent', 'frames of video and packets of audio that this browser sent'],
@@ -148,8 +148,8 @@ const actions = {
   hold: () => direct('inactive'),
   resume: () => direct(mode === 'echo' ? 'sendrecv' : 'sendonly'),
   stop: async () => {
-    const found = pc.getTransceivers().find((it) => it.sender.track?.kind === 'video' && it.currentDirection !== 'stopped');
-    found?.stop();
+    const isCamera = (it) => it.sender.track?.kind === 'video' && it.currentDirection !== 'stopped';
+    pc.getTransceivers().find(isCamera)?.stop();
     await offer();
   },
   add: async () => {
@@ -179,16 +179,15 @@ async function tell() {
   await post('/result', {peer, browser, program});
 }
 
-/** Follows the program until the call is over: its offers, its counts, and a script's actions. */
+/** Follows the program until the call is over: its offers, its counts, and a script's actions at their seconds. */
 async function follow() {
   const script = (asked.get('script') ?? '').split(',').filter(Boolean).map((it) => it.split(':'));
-  const began = performance.now();
   let isStopped = false;
   while (!isOver) {
     const program = await post('/state');
     showCounts(await counts(), program);
     if (program.wants) await inTurn(pull);
-    while (script.length > 0 && performance.now() - began > 1000 * Number(script[0][0])) {
+    while (script.length > 0 && program.elapsed > Number(script[0][0])) {
       await inTurn(actions[script.shift()[1]]);
     }
     if (isOver) return;
@@ -203,6 +202,7 @@ async function follow() {
 
 async function join() {
   byId('join').disabled = true;
+  while (await post('/elapsed') < Number(asked.get('join') ?? 0)) await pause(100);
   const joined = await post(`/join?codec=${byId('codec').value}&loss=${byId('loss').value}`);
   ({peer, mode} = joined);
   byId('about').textContent = about[mode];

@@ -70,6 +70,9 @@ func (s *server) answer(r *http.Request, body []byte) (any, error) {
 		s.results <- body
 		return nil, nil
 	}
+	if r.URL.Path == "/elapsed" {
+		return s.elapsed(), nil
+	}
 	var p *peer
 	id, _ := strconv.Atoi(query.Get("peer"))
 	s.room.within(func(time.Time) { p = s.room.peers[id] })
@@ -167,15 +170,26 @@ func (s *server) state(p *peer) (said map[string]any) {
 	s.room.within(func(now time.Time) {
 		said = p.told()
 		said["phase"] = s.phase(now)
+		said["elapsed"] = s.since(now)
 	})
 	return said
 }
 
+// elapsed is for how many seconds all browsers have been connected; 0 before.
+func (s *server) elapsed() (seconds float64) {
+	s.room.within(func(now time.Time) { seconds = s.since(now) })
+	return seconds
+}
+
+func (s *server) since(now time.Time) float64 {
+	if s.began.IsZero() {
+		return 0
+	}
+	return now.Sub(s.began).Seconds()
+}
+
 // phase is run, stop or tell. A run lasts from when all browsers are connected.
 func (s *server) phase(now time.Time) string {
-	if s.seconds == 0 {
-		return "run"
-	}
 	if s.began.IsZero() {
 		connected := 0
 		for _, p := range s.room.peers {
@@ -187,6 +201,9 @@ func (s *server) phase(now time.Time) string {
 			return "run"
 		}
 		s.began = now
+	}
+	if s.seconds == 0 {
+		return "run"
 	}
 	end := s.began.Add(time.Duration(s.seconds * float64(time.Second)))
 	switch {

@@ -114,19 +114,30 @@ func (t *transport) connect(offers bool, to jilqamur.Remote) error {
 	return t.agree(ours, to)
 }
 
-// read tells the datagrams apart by their first byte (RFC 7983).
+// read tells the datagrams apart by their first byte (RFC 7983). Records of a handshake that is over may wait for
+// nobody, and must not hold media up.
 func (t *transport) read(handshake net.Conn) {
+	records := make(chan []byte, 64)
+	go func() {
+		for record := range records {
+			handshake.Write(record)
+		}
+	}()
 	buffer := make([]byte, 4096)
 	for {
 		n, err := t.conn.Read(buffer)
 		if err != nil {
+			close(records)
 			handshake.Close()
 			return
 		}
 		datagram := append([]byte{}, buffer[:n]...)
 		switch {
 		case n > 0 && datagram[0] >= 20 && datagram[0] < 64:
-			handshake.Write(datagram)
+			select {
+			case records <- datagram:
+			default:
+			}
 		case n > 1 && datagram[0] >= 128 && datagram[0] < 192:
 			t.inward.pass(datagram, t.take)
 		}
