@@ -171,7 +171,7 @@ func TestABrowserIsAnswered(t *testing.T) {
 	equal(t, must[Remote](t)(a.Remote()), Remote{Ufrag: "abcd", Password: transport.Password,
 		Fingerprint: "sha-256 AB:CD", Setup: Some(Passive), OwnSetup: Some(Active), Trickling: true, Lite: true})
 	equal(t, must[Remote](t)(b.Remote()).OwnSetup, Some(Passive))
-	_, err := b.AnswerBrowser(offer, Wish{Reject: true})
+	_, err := made(t, 3).AnswerBrowser(offer, Wish{Reject: true})
 	refused(t, err, ErrNothingLeft)
 	_, err = b.ForBrowser(own, Transport{Setup: 9})
 	refused(t, err, ErrOutOfRange)
