@@ -9,7 +9,8 @@ depth of indentation. No other line is longer than 120 characters, README has at
 the repository leads to a file, and to a heading of it. Each wrong body in wrong_bodies/ and crates/*/must-fail/ changes
 text that its file has once. A name is imported from the crate that defines it: only the crates for users hand names on,
 each straight from its crate, and only programs take them there. What calls of the library for C answer is numbered
-alike in its crate, its header, and the packages for Rust and Python. Prints what is missing, and ends with status 1 then.
+alike in its crate, its header, and the packages for Rust, Go and Python. Prints what is missing, and ends with status 1
+then.
 """
 import re
 import subprocess
@@ -307,6 +308,8 @@ def library_codes():
     yield "include/jilqamur.h", re.findall(r"\bJILQAMUR_(\w+) = (\d+)", listed)
     yield "rust/src/error.rs", re.findall(constant, rust)
     yield "python/jilqamur/codes.py", re.findall(r"^    (\w+) = (\d+)$", python, re.M)
+    go = (ROOT / "go/jilqamur/error.go").read_text(encoding="utf-8").split("var names = ")[1].split("}\n")[0]
+    yield "go/jilqamur/error.go", [(name, str(at)) for at, name in enumerate(re.findall(r'"(\w+)"', go))]
 
 
 def differing_codes():

@@ -17,22 +17,27 @@ import (
 	"github.com/pion/dtls/v2/pkg/crypto/selfsign"
 	"github.com/pion/ice/v2"
 	"github.com/pion/srtp/v2"
+
+	"jilqamur"
 )
 
-// transport is pion's ICE, DTLS and SRTP over the loopback.
+// transport is pion's ICE, DTLS and SRTP over the loopback. Both its directions are impaired on purpose.
 type transport struct {
-	agent       *ice.Agent
-	certificate tls.Certificate
-	conn        *ice.Conn
-	lock        sync.Mutex
-	early       [][]byte // what came before the keys
-	in, out     *srtp.Context
-	media       func([]byte)
-	control     func([]byte)
+	agent           *ice.Agent
+	certificate     tls.Certificate
+	conn            *ice.Conn
+	inward, outward *hop
+	lock            sync.Mutex
+	early           [][]byte // what came before the keys
+	in, out         *srtp.Context
+	media, control  func([]byte)
 }
 
-// newTransport gathers the candidates of the loopback alone.
-func newTransport() (*transport, error) {
+// errNotConnected is why a datagram isn't sent before the keys are there.
+var errNotConnected = errors.New("not connected yet")
+
+// newTransport gathers only the candidates of the loopback.
+func newTransport(inward, outward *hop) (*transport, error) {
 	certificate, err := selfsign.GenerateSelfSigned()
 	if err != nil {
 		return nil, err
@@ -47,7 +52,7 @@ func newTransport() (*transport, error) {
 	if err != nil {
 		return nil, err
 	}
-	t := &transport{agent: agent, certificate: certificate}
+	t := &transport{agent: agent, certificate: certificate, inward: inward, outward: outward}
 	gathered := make(chan struct{})
 	err = agent.OnCandidate(func(c ice.Candidate) {
 		if c == nil {
@@ -76,16 +81,16 @@ func (t *transport) candidates() (texts []string, err error) {
 	return texts, err
 }
 
-// digest is that of the certificate, by SHA-256.
-func (t *transport) digest() []byte {
-	sum := sha256.Sum256(t.certificate.Certificate[0])
-	return sum[:]
+// described is the transport as a browser is told of it.
+func (t *transport) described(setup jilqamur.Setup) (jilqamur.Transport, error) {
+	ufrag, password, err := t.agent.GetLocalUserCredentials()
+	digest := sha256.Sum256(t.certificate.Certificate[0])
+	return jilqamur.Transport{Setup: setup, Ufrag: ufrag, Password: password, Digest: digest[:]}, err
 }
 
 // connect reaches the browser: ICE first, then the keys by DTLS. Media and control are handed on as they are decrypted.
-func (t *transport) connect(offers bool, to remote, media, control func([]byte)) error {
-	t.media, t.control = media, control
-	for _, text := range to.candidates {
+func (t *transport) connect(offers bool, to jilqamur.Remote) error {
+	for _, text := range to.Candidates {
 		candidate, err := ice.UnmarshalCandidate(strings.TrimPrefix(text, "candidate:"))
 		if err == nil && candidate.NetworkType() == ice.NetworkTypeUDP4 {
 			err = t.agent.AddRemoteCandidate(candidate)
@@ -98,7 +103,7 @@ func (t *transport) connect(offers bool, to remote, media, control func([]byte))
 	if offers {
 		join = t.agent.Dial
 	}
-	conn, err := join(context.Background(), to.ufrag, to.password)
+	conn, err := join(context.Background(), to.Ufrag, to.Password)
 	if err != nil {
 		return err
 	}
@@ -109,21 +114,32 @@ func (t *transport) connect(offers bool, to remote, media, control func([]byte))
 	return t.agree(ours, to)
 }
 
-// read tells the datagrams apart by their first byte (RFC 7983).
+// read tells the datagrams apart by their first byte (RFC 7983). Records of a handshake that is over may wait for
+// nobody, and must not hold media up.
 func (t *transport) read(handshake net.Conn) {
+	records := make(chan []byte, 64)
+	go func() {
+		for record := range records {
+			handshake.Write(record)
+		}
+	}()
 	buffer := make([]byte, 4096)
 	for {
 		n, err := t.conn.Read(buffer)
 		if err != nil {
+			close(records)
 			handshake.Close()
 			return
 		}
 		datagram := append([]byte{}, buffer[:n]...)
 		switch {
 		case n > 0 && datagram[0] >= 20 && datagram[0] < 64:
-			handshake.Write(datagram)
+			select {
+			case records <- datagram:
+			default:
+			}
 		case n > 1 && datagram[0] >= 128 && datagram[0] < 192:
-			t.take(datagram)
+			t.inward.pass(datagram, t.take)
 		}
 	}
 }
@@ -141,7 +157,7 @@ func (t *transport) write(handshake net.Conn) {
 }
 
 // agree makes the handshake, tests the browser's certificate, and takes the keys.
-func (t *transport) agree(conn net.Conn, to remote) error {
+func (t *transport) agree(conn net.Conn, to jilqamur.Remote) error {
 	config := &dtls.Config{
 		Certificates:           []tls.Certificate{t.certificate},
 		SRTPProtectionProfiles: []dtls.SRTPProtectionProfile{dtls.SRTP_AES128_CM_HMAC_SHA1_80},
@@ -149,7 +165,7 @@ func (t *transport) agree(conn net.Conn, to remote) error {
 		ClientAuth:             dtls.RequireAnyClientCert,
 		InsecureSkipVerify:     true, // the fingerprint is tested instead
 	}
-	isClient := to.setup == passive
+	isClient := to.Setup.Value == jilqamur.Passive
 	join := dtls.Server
 	if isClient {
 		join = dtls.Client
@@ -159,7 +175,7 @@ func (t *transport) agree(conn net.Conn, to remote) error {
 		return err
 	}
 	state := made.ConnectionState()
-	if err := isOf(state.PeerCertificates, to.fingerprint); err != nil {
+	if err := isOf(state.PeerCertificates, to.Fingerprint); err != nil {
 		return err
 	}
 	keys := &srtp.Config{Profile: srtp.ProtectionProfileAes128CmHmacSha1_80}
@@ -227,13 +243,16 @@ func (t *transport) take(datagram []byte) {
 func (t *transport) send(datagram []byte, isControl bool) error {
 	t.lock.Lock()
 	defer t.lock.Unlock()
+	if t.out == nil {
+		return errNotConnected
+	}
 	encrypt := func() ([]byte, error) { return t.out.EncryptRTP(nil, datagram, nil) }
 	if isControl {
 		encrypt = func() ([]byte, error) { return t.out.EncryptRTCP(nil, datagram, nil) }
 	}
 	secret, err := encrypt()
 	if err == nil {
-		_, err = t.conn.Write(secret)
+		t.outward.pass(secret, func(datagram []byte) { t.conn.Write(datagram) })
 	}
 	return err
 }

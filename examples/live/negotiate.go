@@ -1,0 +1,185 @@
+package main
+
+import (
+	"errors"
+	"strings"
+
+	"jilqamur"
+)
+
+// place is a section of a browser's text.
+type place struct {
+	mid     string
+	kind    jilqamur.Kind
+	isMedia bool // whether it is audio or video, and wasn't stopped
+}
+
+// placesOf are the sections of a text in order. Wishes go by place.
+func placesOf(text string) (places []place) {
+	for _, line := range strings.Split(text, "\n") {
+		line = strings.TrimSpace(line)
+		if strings.HasPrefix(line, "m=") {
+			words := strings.Fields(line[2:])
+			at := place{}
+			if len(words) > 1 {
+				at.isMedia = (words[0] == "audio" || words[0] == "video") && words[1] != "0"
+			}
+			if len(words) > 0 && words[0] == "video" {
+				at.kind = jilqamur.Video
+			}
+			places = append(places, at)
+		}
+		if mid := strings.TrimPrefix(line, "a=mid:"); mid != line && len(places) > 0 {
+			places[len(places)-1].mid = mid
+		}
+		// With max-bundle later sections have port 0 and are in the bundle all the same (RFC 9143, section 7.3.3).
+		if line == "a=bundle-only" && len(places) > 0 {
+			places[len(places)-1].isMedia = true
+		}
+	}
+	return places
+}
+
+// answer answers the browser's offer.
+func (p *peer) answer(offer string) (string, error) {
+	var wishes []jilqamur.Wish
+	fresh := map[string]*section{}
+	for _, at := range placesOf(offer) {
+		s := p.sections[at.mid]
+		if s == nil && at.isMedia {
+			s = p.room.browsersSection(p, at)
+			fresh[at.mid] = s
+		}
+		if s == nil || !at.isMedia || s.isStopped {
+			wishes = append(wishes, jilqamur.Wish{Reject: true})
+			continue
+		}
+		ssrcs, repairs := s.names()
+		wishes = append(wishes, jilqamur.Wish{Direction: s.direction, SSRCs: ssrcs, Repairs: repairs})
+	}
+	own, err := p.end.AnswerBrowser(offer, wishes...)
+	if err != nil {
+		return "", err
+	}
+	for mid, s := range fresh {
+		p.sections[mid] = s
+	}
+	for _, at := range placesOf(offer) {
+		if s := p.sections[at.mid]; s != nil && !at.isMedia {
+			s.isStopped = true
+		}
+	}
+	if err := p.settle(); err != nil {
+		return "", err
+	}
+	return p.dressed(own, jilqamur.Passive)
+}
+
+// offer offers what was agreed on, in its order, and the slots that are new.
+func (p *peer) offer() (string, error) {
+	p.wants = false
+	mids, isListed := append([]string{}, p.order...), map[string]bool{}
+	for _, mid := range mids {
+		isListed[mid] = true
+	}
+	for mid := range p.sections {
+		if !isListed[mid] {
+			mids = append(mids, mid)
+		}
+	}
+	var sections []jilqamur.Section
+	for _, mid := range mids {
+		s := p.sections[mid]
+		ssrcs, repairs := s.names()
+		wanted := jilqamur.Section{Mid: mid, Kind: s.kind, Direction: s.direction, SSRCs: ssrcs, Repairs: repairs}
+		if s.isStopped {
+			wanted.Direction, wanted.SSRCs, wanted.Repairs = jilqamur.Inactive, nil, nil
+		}
+		sections = append(sections, wanted)
+	}
+	own, err := p.end.Offer(sections...)
+	if err != nil {
+		return "", err
+	}
+	return p.dressed(own, jilqamur.ActPass)
+}
+
+// accept takes the browser's answer. If it rejects a slot, the offer is given up, and the slot with it.
+func (p *peer) accept(answer string) error {
+	err := p.end.AcceptBrowser(answer)
+	if err == nil {
+		return p.settle()
+	}
+	if withdrawn := p.end.Withdraw(); withdrawn != nil && !errors.Is(withdrawn, jilqamur.ErrNothing) {
+		return withdrawn
+	}
+	return err
+}
+
+// dressed makes a text of the end one for the browser.
+func (p *peer) dressed(own string, setup jilqamur.Setup) (string, error) {
+	transport, err := p.transport.described(setup)
+	if err != nil {
+		return "", err
+	}
+	return p.end.ForBrowser(own, transport)
+}
+
+// settle opens the streams of what was agreed, and sees what was held or stopped.
+func (p *peer) settle() error {
+	agreed, err := p.end.AgreedSections()
+	if err != nil {
+		return err
+	}
+	p.order = nil
+	for _, in := range p.inbounds {
+		in.isActive = false
+	}
+	for _, a := range agreed {
+		p.order = append(p.order, a.Mid)
+		s := p.sections[a.Mid]
+		if s == nil {
+			continue
+		}
+		if a.Direction.Receives() {
+			if err := p.openInbounds(a); err != nil {
+				return err
+			}
+		}
+		if s.out != nil {
+			if err := s.out.settle(a); err != nil {
+				return err
+			}
+		}
+	}
+	p.room.assign()
+	return nil
+}
+
+// openInbounds opens a receiving stream for each SSRC and row that isn't open yet.
+func (p *peer) openInbounds(a jilqamur.AgreedSection) error {
+	for _, ssrc := range a.SSRCs {
+		for _, row := range a.Rows {
+			if in := p.inboundOf(ssrc, row.PayloadType); in != nil {
+				in.isActive = true
+				continue
+			}
+			stream, err := p.end.OpenReceiver(a.Mid, ssrc, row.PayloadType, jilqamur.ReceiverParams{HoldBack: 15})
+			if err != nil {
+				return err
+			}
+			p.inbounds[stream] = &inbound{peer: p, mid: a.Mid, kind: a.Kind, ssrc: ssrc, row: row, stream: stream,
+				isActive: true, recent: newStore[uint64, packet]()}
+		}
+	}
+	return nil
+}
+
+func (p *peer) inboundOf(ssrc uint32, payloadType uint8) *inbound {
+	for _, in := range p.inbounds {
+		if in.ssrc == ssrc && in.row.PayloadType == payloadType {
+			return in
+		}
+	}
+	return nil
+}

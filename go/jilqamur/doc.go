@@ -1,0 +1,24 @@
+// Package jilqamur is the media path of WebRTC: SDP offers and answers, RTP packets of thirteen codecs, the jitter
+// buffer, and forwarding by packets, over a proved library. It opens no socket and encrypts nothing: a program sends
+// the datagrams that it makes, and hands it those that arrive.
+//
+// Two ends agree by an offer and an answer, and each opens its stream:
+//
+//	opus, err := jilqamur.NewRow("opus", 111)
+//	a, err := jilqamur.NewEnd(jilqamur.Config{Rows: []jilqamur.Row{opus}, Session: 1})
+//	offer, err := a.Offer(jilqamur.Section{Mid: "0", SSRCs: []uint32{44}})
+//	answer, err := b.Answer(offer, jilqamur.Section{Mid: "0", SSRCs: []uint32{45}})
+//	err = a.Accept(answer)
+//	sender, err := a.OpenSender("0", 44, 111, jilqamur.StreamParams{MTU: 1200, Limit: 1400})
+//
+// A sample is the codec's bytes of a frame or an audio packet: of AV1 the OBUs of a temporal unit, of which only the
+// last may have no size; of H.264, H.265 and H.266 an access unit with start codes; of AMR-WB a header byte and the
+// speech (RFC 4867, section 5.3). Units have the same forms: each OBU with its size, each NAL unit after 00 00 00 01.
+//
+// A call that is refused returns an [Error], and changes nothing unless its comment says otherwise. Values of this
+// package, such as an [End], are closed by Close, or once nothing refers to them. Like most values of Go each has one
+// call at a time; different ones may be used at once. Don't copy them. A call at a closed one returns [ErrClosed].
+//
+// The library is linked from the folder lib of this package, or from the repository that it is in. With the build tag
+// jilqamur_pkgconfig, pkg-config finds it.
+package jilqamur

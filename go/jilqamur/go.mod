@@ -1,0 +1,3 @@
+module jilqamur
+
+go 1.19
