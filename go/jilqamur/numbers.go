@@ -1,0 +1,64 @@
+package jilqamur
+
+// #include "jilqamur.h"
+import "C"
+
+import "unsafe"
+
+// mostMissing is how many numbers can be missing at most.
+const mostMissing = 1023
+
+// Missing is the missing numbers of a receiving stream, in increasing order: those after the last unit's, or, before any
+// unit, after the lowest packet that waits, that were not taken, below the greatest that was and within the replay
+// window. These are what a generic NACK may ask for (RFC 4585, section 6.2.1). It returns [ErrNoStream], or [ErrMemory].
+func (e *End) Missing(stream int) ([]uint64, error) {
+	var needed C.size_t
+	numbers := make([]uint64, mostMissing)
+	at := (*C.uint64_t)(unsafe.Pointer(&numbers[0]))
+	if err := done(C.jilqamur_end_missing(&e.handle, C.size_t(stream), at, mostMissing, &needed)); err != nil {
+		return nil, err
+	}
+	return numbers[:needed:needed], nil
+}
+
+// IsPassed tells whether a number of a receiving stream is passed: a unit with this number or one above it was handed
+// out, or a frame with it was refused. A datagram of such a number is of no use any more. It returns [ErrNoStream].
+func (e *End) IsPassed(stream int, number uint64) (bool, error) {
+	err := done(C.jilqamur_end_is_passed(&e.handle, C.size_t(stream), C.uint64_t(number)))
+	if err == ErrNothing {
+		return false, nil
+	}
+	return err == nil, err
+}
+
+// PassTo passes all numbers of a receiving stream up to this one: what waits of them is dropped, an open fragment is
+// given up, and the frame after the number is next, so that hold-back protects it. So a stream begins with a key frame,
+// and goes on at once after a loss that nobody repairs. It returns [ErrNoStream].
+func (e *End) PassTo(stream int, number uint64) error {
+	return done(C.jilqamur_end_pass_to(&e.handle, C.size_t(stream), C.uint64_t(number)))
+}
+
+// NextNumber is the number that the next datagram of a sending stream's samples gets. It returns [ErrNoStream].
+func (e *End) NextNumber(stream int) (uint64, error) {
+	var next C.uint64_t
+	err := done(C.jilqamur_end_next_number(&e.handle, C.size_t(stream), &next))
+	return uint64(next), err
+}
+
+// SkipTo leaves numbers of a sending stream out: its samples never send those from its next number up to this one. A
+// number that isn't above the next one changes nothing. It returns [ErrNoStream].
+func (e *End) SkipTo(stream int, number uint64) error {
+	return done(C.jilqamur_end_skip_to(&e.handle, C.size_t(stream), C.uint64_t(number)))
+}
+
+// CloseSender closes a sending stream: what it holds is given back, and its SSRC can be opened again, with new numbers.
+// The stream's own number isn't used again. It returns [ErrNoStream].
+func (e *End) CloseSender(stream int) error {
+	return done(C.jilqamur_end_close_sender(&e.handle, C.size_t(stream)))
+}
+
+// CloseReceiver closes a receiving stream: what it holds is given back, and its SSRC can be opened again, as one that
+// nothing came of. The stream's own number isn't used again. It returns [ErrNoStream].
+func (e *End) CloseReceiver(stream int) error {
+	return done(C.jilqamur_end_close_receiver(&e.handle, C.size_t(stream)))
+}
