@@ -5,7 +5,7 @@ import "testing"
 func TestMissingNumbersAreToldAndPassed(t *testing.T) {
 	a, b := agreed(t)
 	equal(t, must[[]uint64](t)(b.Missing(0)), []uint64{})
-	first := must[[][]byte](t)(a.PushSample(0, 960, []byte("abc")))
+	first := must[[][]byte](t)(a.PushSample(0, 960, []byte("abc"), Values{}, ""))
 	_, number, err := b.Receive(first[0])
 	equal(t, err, nil)
 	must[*Unit](t)(b.Poll(0))
@@ -13,7 +13,7 @@ func TestMissingNumbersAreToldAndPassed(t *testing.T) {
 	equal(t, must[bool](t)(b.IsPassed(0, number+1)), false)
 	equal(t, must[uint64](t)(a.NextNumber(0)), number+1)
 	equal(t, a.SkipTo(0, number+4), nil)
-	later := must[[][]byte](t)(a.PushSample(0, 1920, []byte("def")))
+	later := must[[][]byte](t)(a.PushSample(0, 1920, []byte("def"), Values{}, ""))
 	_, _, err = b.Receive(later[0])
 	equal(t, err, nil)
 	equal(t, must[[]uint64](t)(b.Missing(0)), []uint64{number + 1, number + 2, number + 3})
