@@ -2,7 +2,8 @@
 //! middle puts no frames together, and each of its ends has SSRCs, payload types and header extensions of its own.
 
 use jilqamur::{
-    Direction, End, EndError, ForwardedPacket, Forwarder, Kind, MIN_HELD, Received, Section, StreamParams, Values,
+    Direction, End, EndError, ForwardedPacket, Forwarder, Kind, MIN_HELD, PacketInfo, Received, Section, StreamParams,
+    Values,
 };
 
 /// What the middle sends to a viewer: the end that faces it, whose stream 0 sends, and the publisher that it sees.
@@ -14,20 +15,15 @@ struct Viewer {
     next_time: u32,
 }
 
-/// Whether a payload of VP8 with a descriptor of one byte begins a key frame (RFC 7741 4.2 and 4.3). If it is to be the
-/// next one, ask its publisher for it (PLI).
-fn begins_key_frame(payload: &[u8]) -> bool {
-    matches!(payload, [descriptor, tag, ..] if descriptor & 0x9f == 0x10 && tag & 1 == 0)
-}
-
 impl Viewer {
     /// A datagram of a publisher as it is for the viewer; None if the viewer doesn't get it. `from` is the end that
     /// faces the publisher.
     fn datagram(&mut self, publisher: u64, from: &mut End, datagram: &[u8]) -> Result<Option<Vec<u8>>, EndError> {
         let Ok(arrival) = from.arrival(datagram)? else { return Ok(None) };
         let Some(number) = from.receiver(arrival.stream).take_number(arrival.low)? else { return Ok(None) };
+        let info = PacketInfo::of("VP8", arrival.payload, arrival.marker)?;
         let is_other = publisher == self.wanted && self.seen != Some(publisher);
-        if is_other && begins_key_frame(arrival.payload) {
+        if is_other && info.is_head && info.shows_key_frame {
             self.forwarder.switch(publisher, number, arrival.timestamp, self.next_time)?;
             self.seen = Some(publisher);
         }

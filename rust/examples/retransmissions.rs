@@ -2,7 +2,7 @@
 //! repeats them out of a store, and what can't be repaired any more is answered with a key frame (PLI, RFC 4585 6.3.1).
 
 use jilqamur::{Direction, End, EndError, Kind, MIN_HELD, Received, Row, Section, StreamParams};
-use std::collections::{BTreeMap, BTreeSet};
+use std::collections::BTreeMap;
 
 /// The datagrams of the last second, by the low 16 bits of their numbers.
 #[derive(Default)]
@@ -19,28 +19,6 @@ impl Store {
     }
 }
 
-/// The numbers that a receiver misses: those that were skipped, and neither came nor were given up.
-#[derive(Default)]
-struct Missing {
-    next: Option<u64>,
-    numbers: BTreeSet<u64>,
-}
-
-impl Missing {
-    /// A number that was taken, as `Received::Taken` says.
-    fn taken(&mut self, number: u64) {
-        self.numbers.remove(&number);
-        let next = self.next.unwrap_or(number);
-        self.numbers.extend(next..number);
-        self.next = Some(next.max(number + 1));
-    }
-
-    /// A unit was handed out up to this number: what is missing before it is of no use any more.
-    fn handed_out(&mut self, last: u64) {
-        self.numbers = self.numbers.split_off(&last);
-    }
-}
-
 /// A packet of RTCP feedback (RFC 4585 6.1): its format and type, the own SSRC, the SSRC of the media, and the rest.
 fn feedback(format: u8, kind: u8, own: u32, media: u32, rest: &[u8]) -> Vec<u8> {
     let words = (2 + rest.len() / 4) as u16;
@@ -49,9 +27,9 @@ fn feedback(format: u8, kind: u8, own: u32, media: u32, rest: &[u8]) -> Vec<u8> 
 }
 
 /// Asks for datagrams, each with an entry of its own.
-fn nack(own: u32, media: u32, missing: &Missing) -> Vec<u8> {
+fn nack(own: u32, media: u32, missing: &[u64]) -> Vec<u8> {
     let entry = |number: &u64| [(number >> 8) as u8, *number as u8, 0, 0];
-    feedback(1, 205, own, media, &missing.numbers.iter().flat_map(entry).collect::<Vec<u8>>())
+    feedback(1, 205, own, media, &missing.iter().flat_map(entry).collect::<Vec<u8>>())
 }
 
 /// The numbers that a NACK asks for: of each entry its number, and those of the 16 after it whose bits are set.
@@ -102,12 +80,10 @@ fn agreed() -> Result<(End, End), EndError> {
 }
 
 /// Takes a datagram, and shows what is due; the answer is whether a key frame is wanted.
-fn receive(b: &mut End, datagram: &[u8], missing: &mut Missing, picture: &mut Picture) -> Result<bool, EndError> {
-    let Received::Taken(stream, number) = b.receive(datagram)? else { return Ok(false) };
-    missing.taken(number);
+fn receive(b: &mut End, datagram: &[u8], picture: &mut Picture) -> Result<bool, EndError> {
+    let Received::Taken(stream, _) = b.receive(datagram)? else { return Ok(false) };
     for unit in b.receiver(stream).units() {
         let unit = unit?;
-        missing.handed_out(unit.last);
         let shows = picture.shows(unit.first, unit.last, unit.is_keyframe);
         println!("at {}: {}", unit.time, if shows { "shown" } else { "waits for a key frame" });
     }
@@ -116,7 +92,7 @@ fn receive(b: &mut End, datagram: &[u8], missing: &mut Missing, picture: &mut Pi
 
 fn main() -> Result<(), EndError> {
     let (mut a, mut b) = agreed()?;
-    let (mut store, mut missing, mut picture) = (Store::default(), Missing::default(), Picture::default());
+    let (mut store, mut picture) = (Store::default(), Picture::default());
     let mut wants_key = true;
     for k in 0..10_u64 {
         let tag = if wants_key { 0x10 } else { 0x11 }; // the first bit of a VP8 frame: 0 for a key frame
@@ -124,15 +100,15 @@ fn main() -> Result<(), EndError> {
         for (place, datagram) in datagrams.iter().enumerate() {
             store.keep(datagram);
             if k % 4 != 1 || place != 0 {
-                wants_key = receive(&mut b, datagram, &mut missing, &mut picture)?; // else it is lost on the way
+                wants_key = receive(&mut b, datagram, &mut picture)?; // else it is lost on the way
             }
         }
         if k == 5 {
             store.0.clear(); // as if more than a second had passed
         }
-        for repair in store.repairs(&mut a, 0, &nack(46, 44, &missing))? {
+        for repair in store.repairs(&mut a, 0, &nack(46, 44, &b.missing(0)?))? {
             println!("at {}: repaired", 3000 * k);
-            wants_key = receive(&mut b, &repair, &mut missing, &mut picture)?;
+            wants_key = receive(&mut b, &repair, &mut picture)?;
         }
         if wants_key {
             println!("at {}: PLI of {} bytes", 3000 * k, pli(46, 44).len());

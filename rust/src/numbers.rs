@@ -1,7 +1,8 @@
 //! Sequence numbers of an end's streams, and streams that are closed.
 
 use crate::ends::End;
-use crate::error::{EndError, code, done};
+use crate::error::code;
+use crate::refused::{EndError, done_of};
 use crate::sys;
 
 /// The most numbers that can be missing.
@@ -17,9 +18,10 @@ impl End {
     pub fn missing(&self, stream: usize) -> Result<Vec<u64>, EndError> {
         let (mut numbers, mut needed) = (vec![0; MOST_MISSING], 0);
         // SAFETY: the handle is open, pointer and length are those of one slice, and the count is a place of its own.
-        done(unsafe {
+        let answer = unsafe {
             sys::jilqamur_end_missing(self.0.raw(), stream, numbers.as_mut_ptr(), numbers.len(), &mut needed)
-        })?;
+        };
+        done_of(answer, stream)?;
         numbers.truncate(needed);
         Ok(numbers)
     }
@@ -35,7 +37,7 @@ impl End {
         if answer == code::NOTHING {
             return Ok(false);
         }
-        done(answer)?;
+        done_of(answer, stream)?;
         Ok(true)
     }
 
@@ -48,8 +50,7 @@ impl End {
     /// `NotMade` or `NoStream`.
     pub fn pass_to(&mut self, stream: usize, number: u64) -> Result<(), EndError> {
         // SAFETY: the handle is open.
-        done(unsafe { sys::jilqamur_end_pass_to(self.0.raw(), stream, number) })?;
-        Ok(())
+        done_of(unsafe { sys::jilqamur_end_pass_to(self.0.raw(), stream, number) }, stream)
     }
 
     /// The number that the next datagram of a sending stream's samples gets.
@@ -59,7 +60,7 @@ impl End {
     pub fn next_number(&self, stream: usize) -> Result<u64, EndError> {
         let mut next = 0;
         // SAFETY: the handle is open, and what is written is a place of its own.
-        done(unsafe { sys::jilqamur_end_next_number(self.0.raw(), stream, &mut next) })?;
+        done_of(unsafe { sys::jilqamur_end_next_number(self.0.raw(), stream, &mut next) }, stream)?;
         Ok(next)
     }
 
@@ -71,8 +72,7 @@ impl End {
     /// `NotMade` or `NoStream`.
     pub fn skip_to(&mut self, stream: usize, number: u64) -> Result<(), EndError> {
         // SAFETY: the handle is open.
-        done(unsafe { sys::jilqamur_end_skip_to(self.0.raw(), stream, number) })?;
-        Ok(())
+        done_of(unsafe { sys::jilqamur_end_skip_to(self.0.raw(), stream, number) }, stream)
     }
 
     /// Closes a sending stream: what it holds is given back, and its SSRC can be opened again, with new numbers. The
@@ -82,8 +82,7 @@ impl End {
     /// `NotMade` or `NoStream`.
     pub fn close_sender(&mut self, stream: usize) -> Result<(), EndError> {
         // SAFETY: the handle is open.
-        done(unsafe { sys::jilqamur_end_close_sender(self.0.raw(), stream) })?;
-        Ok(())
+        done_of(unsafe { sys::jilqamur_end_close_sender(self.0.raw(), stream) }, stream)
     }
 
     /// Closes a receiving stream: what it holds is given back, and its SSRC can be opened again, as one that nothing
@@ -93,7 +92,6 @@ impl End {
     /// `NotMade` or `NoStream`.
     pub fn close_receiver(&mut self, stream: usize) -> Result<(), EndError> {
         // SAFETY: the handle is open.
-        done(unsafe { sys::jilqamur_end_close_receiver(self.0.raw(), stream) })?;
-        Ok(())
+        done_of(unsafe { sys::jilqamur_end_close_receiver(self.0.raw(), stream) }, stream)
     }
 }

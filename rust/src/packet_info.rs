@@ -1,9 +1,18 @@
 //! What a packet says of its frame.
 
-use crate::error::{EndError, done};
+use crate::refused::{EndError, done};
 use crate::sys;
 
 /// What a packet says of its frame, without the frame being put together.
+///
+/// ```
+/// use jilqamur::PacketInfo;
+/// // VP8: a descriptor with TID 2, in front of the first byte of a key frame
+/// let info = PacketInfo::of("VP8", &[0x90, 0x20, 0x80, 0x10], true)?;
+/// assert!(info.is_head && info.is_tail && info.shows_key_frame);
+/// assert_eq!(info.temporal_layer, Some(2));
+/// # Ok::<(), jilqamur::EndError>(())
+/// ```
 #[derive(Clone, Copy, Debug, PartialEq, Eq)]
 pub struct PacketInfo {
     /// Whether a frame can begin with it. A packet of H.264, H.265 or H.266 begins a NAL unit: it begins a frame if the

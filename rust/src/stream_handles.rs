@@ -79,6 +79,30 @@ impl SendingStream<'_> {
     ) -> Result<Vec<u8>, EndError> {
         self.end.send_packet(self.number, packet, values, mid)
     }
+
+    /// The number that the next datagram of a sample gets.
+    ///
+    /// # Errors
+    /// As [`End::next_number`].
+    pub fn next_number(&self) -> Result<u64, EndError> {
+        self.end.next_number(self.number)
+    }
+
+    /// Leaves the numbers from the next one up to this one out.
+    ///
+    /// # Errors
+    /// As [`End::skip_to`].
+    pub fn skip_to(&mut self, number: u64) -> Result<(), EndError> {
+        self.end.skip_to(self.number, number)
+    }
+
+    /// Closes the stream.
+    ///
+    /// # Errors
+    /// As [`End::close_sender`].
+    pub fn close(self) -> Result<(), EndError> {
+        self.end.close_sender(self.number)
+    }
 }
 
 /// A receiving stream of an end; [`End::receiver`] borrows it.
@@ -147,6 +171,38 @@ impl<'e> ReceivingStream<'e> {
     /// As [`End::take_number`].
     pub fn take_number(&mut self, low: u16) -> Result<Option<u64>, EndError> {
         self.end.take_number(self.number, low)
+    }
+
+    /// The missing numbers, in increasing order.
+    ///
+    /// # Errors
+    /// As [`End::missing`].
+    pub fn missing(&self) -> Result<Vec<u64>, EndError> {
+        self.end.missing(self.number)
+    }
+
+    /// Whether a datagram of this number is of no use any more.
+    ///
+    /// # Errors
+    /// As [`End::is_passed`].
+    pub fn is_passed(&self, number: u64) -> Result<bool, EndError> {
+        self.end.is_passed(self.number, number)
+    }
+
+    /// Passes all numbers up to this one.
+    ///
+    /// # Errors
+    /// As [`End::pass_to`].
+    pub fn pass_to(&mut self, number: u64) -> Result<(), EndError> {
+        self.end.pass_to(self.number, number)
+    }
+
+    /// Closes the stream.
+    ///
+    /// # Errors
+    /// As [`End::close_receiver`].
+    pub fn close(self) -> Result<(), EndError> {
+        self.end.close_receiver(self.number)
     }
 }
 
