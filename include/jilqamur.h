@@ -180,7 +180,7 @@ static inline const char *jilqamur_error_text(uint32_t answer)
 
 /* The header of an RTP packet (RFC 3550 5.1), without the values of its extensions. */
 typedef struct jilqamur_header {
-    bool has_padding;         /* whether padding stands behind the payload */
+    bool has_padding;         /* whether padding follows the payload */
     bool has_extension;       /* whether there is an extension block; one that is written is empty */
     bool marker;              /* the marker bit */
     uint8_t payload_type;     /* 0 to 127 */
@@ -196,11 +196,11 @@ typedef struct jilqamur_header {
  * header_len of what was read is at most len. */
 uint32_t jilqamur_header_read(const uint8_t *datagram, size_t len, jilqamur_header *header);
 
-/* Writes a header in front of a buffer of len bytes, and its length in bytes into needed; the bytes behind it stay.
+/* Writes a header in front of a buffer of len bytes, and its length in bytes into needed; the bytes after it stay.
  * JILQAMUR_UNWRITABLE, and nothing is changed; or JILQAMUR_TOO_SMALL, and needed alone is written. */
 uint32_t jilqamur_header_write(const jilqamur_header *header, uint8_t *buffer, size_t len, size_t *needed);
 
-/* Writes into unpadded how many of the len bytes behind a header are left once the padding is taken off, where the
+/* Writes into unpadded how many of the len bytes after a header are left once the padding is taken off, if the
  * header says that there is some: JILQAMUR_OK, or JILQAMUR_DAMAGED, and unpadded is unchanged. */
 uint32_t jilqamur_payload_unpad(bool has_padding, const uint8_t *payload, size_t len, size_t *unpadded);
 
@@ -210,9 +210,9 @@ typedef struct jilqamur_packet_info {
     bool is_tail;            /* whether a frame ends with it */
     bool shows_key_frame;    /* whether it shows that its frame is a key frame; audio never does */
     bool has_spatial_layer;  /* whether it tells its spatial layer */
-    uint8_t spatial_layer;   /* the spatial layer, from 0; 0 where it isn't told */
+    uint8_t spatial_layer;   /* the spatial layer, from 0; 0 if it isn't told */
     bool has_temporal_layer; /* whether it tells its temporal layer */
-    uint8_t temporal_layer;  /* the temporal layer, from 0; 0 where it isn't told */
+    uint8_t temporal_layer;  /* the temporal layer, from 0; 0 if it isn't told */
 } jilqamur_packet_info;
 
 /* Tells what a packet of the codec of this name, with this payload of len bytes without padding and this marker bit,
@@ -234,17 +234,17 @@ typedef struct jilqamur_window {
 
 #define JILQAMUR_WINDOW_CLOSED {false, 0}
 
-/* Opens a window that no number came to: JILQAMUR_OK; or JILQAMUR_IN_USE where the handle is open, or JILQAMUR_MEMORY,
+/* Opens a window that no number came to: JILQAMUR_OK; or JILQAMUR_IN_USE if the handle is open, or JILQAMUR_MEMORY,
  * and it is unchanged. */
 uint32_t jilqamur_window_open(jilqamur_window *window);
 
-/* Takes a datagram of len bytes in. JILQAMUR_CLOSED where the handle is closed, JILQAMUR_UNREADABLE where no header
- * stands in front, JILQAMUR_REFUSED where its number came before or is 1,024 or more below the greatest: number is then
+/* Takes a datagram of len bytes in. JILQAMUR_CLOSED if the handle is closed, JILQAMUR_UNREADABLE if no header
+ * is in front, JILQAMUR_REFUSED if its number came before or is 1,024 or more below the greatest: number is then
  * unchanged, and so is the window. Else JILQAMUR_OK: number is its widened number, which is recorded. The payload and
  * the SSRC are not looked at. */
 uint32_t jilqamur_window_receive(jilqamur_window *window, const uint8_t *datagram, size_t len, uint64_t *number);
 
-/* Frees the window: JILQAMUR_OK, or JILQAMUR_CLOSED where the handle is closed. It is closed afterwards. */
+/* Frees the window: JILQAMUR_OK, or JILQAMUR_CLOSED if the handle is closed. It is closed afterwards. */
 uint32_t jilqamur_window_close(jilqamur_window *window);
 
 /* How payloads are read and written, beside their codec. */
@@ -263,9 +263,9 @@ typedef struct jilqamur_unit {
     uint32_t time;           /* the RTP timestamp, in ticks of the clock rate, of G.722 at 8,000 Hz */
     bool is_keyframe;        /* whether the codec says that it is a keyframe; VP9 and audio never do */
     bool has_picture_id;     /* whether VP8 or VP9 gives a picture id */
-    uint16_t picture_id;     /* it, of 7 or 15 bits (RFC 7741 4.2, RFC 9628 4.2); 0 where none is given */
+    uint16_t picture_id;     /* it, of 7 or 15 bits (RFC 7741 4.2, RFC 9628 4.2); 0 if none is given */
     bool has_base_layer;     /* whether VP8 gives the index of the temporal base layer frame */
-    uint8_t base_layer;      /* it, TL0PICIDX (RFC 7741 4.2); 0 where none is given */
+    uint8_t base_layer;      /* it, TL0PICIDX (RFC 7741 4.2); 0 if none is given */
     bool has_event;          /* whether the unit is a packet of telephone events, whose first follows (RFC 4733 2.3) */
     uint8_t event;           /* the event: 0 to 15 are the keys 0 to 9, *, #, A to D; 0 without one */
     bool event_end;          /* whether it has ended */
@@ -292,33 +292,33 @@ typedef struct jilqamur_packetizer {
 #define JILQAMUR_PACKETIZER_CLOSED {false, 0}
 
 /* Opens a packetizer that cut nothing, of the codec of this name: opus, PCMU, PCMA, G722, CN, AMR-WB, telephone-event,
- * VP8, VP9, AV1, H264, H265 or H266, in any case. JILQAMUR_IN_USE where the handle is open; JILQAMUR_OUT_OF_RANGE for a
+ * VP8, VP9, AV1, H264, H265 or H266, in any case. JILQAMUR_IN_USE if the handle is open; JILQAMUR_OUT_OF_RANGE for a
  * picture id above 32,767, a clock rate of 0 or a codec that has no payload format, JILQAMUR_NOT_TEXT for a name that
  * is no text, or JILQAMUR_MEMORY; and it is unchanged. */
 uint32_t jilqamur_packetizer_open(jilqamur_packetizer *packetizer, const jilqamur_packetizer_params *params,
                                   const jilqamur_format *format, const uint8_t *codec, size_t codec_len);
 
-/* Frees the packetizer: JILQAMUR_OK, or JILQAMUR_CLOSED where the handle is closed. It is closed afterwards. */
+/* Frees the packetizer: JILQAMUR_OK, or JILQAMUR_CLOSED if the handle is closed. It is closed afterwards. */
 uint32_t jilqamur_packetizer_close(jilqamur_packetizer *packetizer);
 
 /* Cuts a sample of len bytes, a frame or an audio packet, into payloads of at most mtu bytes, which are left to be
  * fetched in place of those before, and writes how many there are into count. Of AV1 the sample is the OBUs of a
  * temporal unit, of which the last alone may have no size; of H.264, H.265 and H.266 an access unit with start codes,
  * not lengths; of AMR-WB a header byte and the speech (RFC 4867 5.3); else the codec's bytes. Units come out in the
- * same forms: each OBU with its size, each NAL unit behind 00 00 00 01. One of JILQAMUR_PACKET_TOO_SHORT to
- * JILQAMUR_AMR_WB_CORRUPTED where the codec refuses the sample, or JILQAMUR_MEMORY, and nothing has changed: count is
+ * same forms: each OBU with its size, each NAL unit after 00 00 00 01. One of JILQAMUR_PACKET_TOO_SHORT to
+ * JILQAMUR_AMR_WB_CORRUPTED if the codec refuses the sample, or JILQAMUR_MEMORY, and nothing has changed: count is
  * then how many were left before. */
 uint32_t jilqamur_packetizer_packetize(jilqamur_packetizer *packetizer, size_t mtu, const uint8_t *sample, size_t len,
                                        size_t *count);
 
 /* Copies the payload of this place, counted from 0, to the front of a buffer of len bytes, and writes its length in
  * bytes into needed, and the marker of its RTP header into marker. JILQAMUR_TOO_SMALL, and the buffer is unchanged,
- * while needed and marker are written; JILQAMUR_NOTHING where there is none of that place. The payloads stay until the
+ * while needed and marker are written; JILQAMUR_NOTHING if there is none of that place. The payloads stay until the
  * next sample that is not refused. */
 uint32_t jilqamur_packetizer_packet(jilqamur_packetizer *packetizer, size_t index, uint8_t *buffer, size_t len,
                                     size_t *needed, bool *marker);
 
-/* A handle of a depacketizer that goes by a codec's name, behind a buffer that puts packets in order, and of the unit
+/* A handle of a depacketizer that goes by a codec's name, after a buffer that puts packets in order, and of the unit
  * that was popped last; kept like that of a packetizer. At a closed handle each call but jilqamur_depacketizer_open
  * returns JILQAMUR_CLOSED, and changes nothing. */
 typedef struct jilqamur_depacketizer {
@@ -334,7 +334,7 @@ typedef struct jilqamur_depacketizer {
 uint32_t jilqamur_depacketizer_open(jilqamur_depacketizer *depacketizer, const jilqamur_format *format,
                                     const uint8_t *codec, size_t codec_len, size_t hold_back, size_t held);
 
-/* Frees the depacketizer: JILQAMUR_OK, or JILQAMUR_CLOSED where the handle is closed. It is closed afterwards. */
+/* Frees the depacketizer: JILQAMUR_OK, or JILQAMUR_CLOSED if the handle is closed. It is closed afterwards. */
 uint32_t jilqamur_depacketizer_close(jilqamur_depacketizer *depacketizer);
 
 /* Takes a packet in, by its widened sequence number (jilqamur_number_widen, jilqamur_window_receive), its RTP
@@ -344,8 +344,8 @@ uint32_t jilqamur_depacketizer_close(jilqamur_depacketizer *depacketizer);
 uint32_t jilqamur_depacketizer_push(jilqamur_depacketizer *depacketizer, uint64_t number, uint32_t timestamp,
                                     bool marker, const uint8_t *payload, size_t len);
 
-/* JILQAMUR_OK where a unit is due, which jilqamur_depacketizer_unit fetches. JILQAMUR_NOTHING where none is, one of
- * JILQAMUR_PACKET_TOO_SHORT to JILQAMUR_AMR_WB_CORRUPTED where a packet of the next frame is refused, which is then
+/* JILQAMUR_OK if a unit is due, which jilqamur_depacketizer_unit fetches. JILQAMUR_NOTHING if none is, one of
+ * JILQAMUR_PACKET_TOO_SHORT to JILQAMUR_AMR_WB_CORRUPTED if a packet of the next frame is refused, which is then
  * done with, or JILQAMUR_MEMORY, and the frame stays. */
 uint32_t jilqamur_depacketizer_pop(jilqamur_depacketizer *depacketizer);
 
@@ -369,11 +369,11 @@ typedef struct jilqamur_end {
 
 #define JILQAMUR_END_CLOSED {false, 0}
 
-/* Opens a handle without an end, of an empty draft: JILQAMUR_OK; or JILQAMUR_IN_USE where it is open, or
+/* Opens a handle without an end, of an empty draft: JILQAMUR_OK; or JILQAMUR_IN_USE if it is open, or
  * JILQAMUR_MEMORY, and it is unchanged. */
 uint32_t jilqamur_end_open(jilqamur_end *end);
 
-/* Frees all that the handle holds: JILQAMUR_OK, or JILQAMUR_CLOSED where it is closed. It is closed afterwards. */
+/* Frees all that the handle holds: JILQAMUR_OK, or JILQAMUR_CLOSED if it is closed. It is closed afterwards. */
 uint32_t jilqamur_end_close(jilqamur_end *end);
 
 /* The numbers of a row: a payload type, and what it stands for. */
@@ -388,13 +388,13 @@ typedef struct jilqamur_row {
     uint8_t channels;     /* how many; not looked at where they aren't named */
 } jilqamur_row;
 
-/* Puts a row behind those of the draft: the codec's name, in any case, and what stands behind the type in its a=fmtp
+/* Puts a row after those of the draft: the codec's name, in any case, and what follows the type in its a=fmtp
  * line, or 0 bytes. JILQAMUR_OUT_OF_RANGE for a clock rate of 0, else JILQAMUR_NOT_TEXT, or JILQAMUR_MEMORY, and
  * nothing has changed. */
 uint32_t jilqamur_end_row(jilqamur_end *end, const jilqamur_row *row, const uint8_t *codec, size_t codec_len,
                           const uint8_t *format, size_t format_len);
 
-/* Puts the default rows of Opus, VP8, H.264, H.265, VP9 and AV1 behind those of the draft. JILQAMUR_MEMORY, and nothing
+/* Puts the default rows of Opus, VP8, H.264, H.265, VP9 and AV1 after those of the draft. JILQAMUR_MEMORY, and nothing
  * has changed. */
 uint32_t jilqamur_end_default_rows(jilqamur_end *end);
 
@@ -411,7 +411,7 @@ uint32_t jilqamur_end_make(jilqamur_end *end, uint64_t session);
  * JILQAMUR_MEMORY, and nothing has changed. */
 uint32_t jilqamur_end_section_repair(jilqamur_end *end, uint32_t ssrc, uint32_t repair);
 
-/* Puts a section behind those of the next offer or answer: its name (RFC 5888; at most 16 bytes, each a letter, a digit
+/* Puts a section after those of the next offer or answer: its name (RFC 5888; at most 16 bytes, each a letter, a digit
  * or _), audio or video, which way media shall flow as this end sees it, and the SSRCs that this end sends under, with
  * the repairs that were put before it, which it uses up. Each offer and each answer uses the gathered sections up.
  * JILQAMUR_NOT_TEXT, or JILQAMUR_MEMORY, and nothing has changed. */
@@ -419,7 +419,7 @@ uint32_t jilqamur_end_section(jilqamur_end *end, const uint8_t *mid, size_t mid_
                               bool receives, const uint32_t *ssrcs, size_t count);
 
 /* Offers the gathered sections (RFC 3264 5): jilqamur_end_text fetches the text. JILQAMUR_NOT_MADE without an end,
- * JILQAMUR_OUT_OF_RANGE where the repairs of a section aren't sound: each repairs another one of its SSRCs, and none is
+ * JILQAMUR_OUT_OF_RANGE if the repairs of a section aren't sound: each repairs another one of its SSRCs, and none is
  * one of them; else the first that holds of JILQAMUR_OUT_OF_TURN, JILQAMUR_NOT_CORRESPONDING, JILQAMUR_NO_COMMON_ROW
  * and JILQAMUR_NOT_WRITABLE, or JILQAMUR_MEMORY, and end and text stay. */
 uint32_t jilqamur_end_offer(jilqamur_end *end);
@@ -435,7 +435,7 @@ uint32_t jilqamur_end_answer(jilqamur_end *end, const uint8_t *offer, size_t len
  * JILQAMUR_NOT_CORRESPONDING, JILQAMUR_ROUND and JILQAMUR_NO_COMMON_ROW, or JILQAMUR_MEMORY, and the end stays. */
 uint32_t jilqamur_end_accept(jilqamur_end *end, const uint8_t *answer, size_t len);
 
-/* Gives a pending offer up. JILQAMUR_NOTHING where none is pending, JILQAMUR_NOT_MADE without an end. */
+/* Gives a pending offer up. JILQAMUR_NOTHING if none is pending, JILQAMUR_NOT_MADE without an end. */
 uint32_t jilqamur_end_withdraw(jilqamur_end *end);
 
 /* Copies the text that the last offer or answer left to the front of a buffer of len bytes, and writes its length in
@@ -443,7 +443,7 @@ uint32_t jilqamur_end_withdraw(jilqamur_end *end);
  * offer or answer that is not refused, and has no 0 at its end. */
 uint32_t jilqamur_end_text(jilqamur_end *end, uint8_t *buffer, size_t len, size_t *needed);
 
-/* Puts a wish for the next section of a browser's offer behind those before: whether it is answered or rejected, and
+/* Puts a wish for the next section of a browser's offer after those before: whether it is answered or rejected, and
  * of one that is answered which way media shall flow as this end sees it, and the SSRCs that this end sends under,
  * with the repairs that were put before it, which each wish uses up. A section without a wish is rejected.
  * JILQAMUR_MEMORY, and nothing has changed. */
@@ -489,9 +489,9 @@ uint32_t jilqamur_end_for_browser(jilqamur_end *end, const uint8_t *text, size_t
 /* What a browser's last text tells of its transport, beside texts. */
 typedef struct jilqamur_remote {
     bool has_setup;     /* whether it tells its part in the connection */
-    uint8_t setup;      /* it; 0 where it isn't told */
+    uint8_t setup;      /* it; 0 if it isn't told */
     bool has_own_setup; /* whether the part of this end was answered before */
-    uint8_t own_setup;  /* it; 0 where it wasn't */
+    uint8_t own_setup;  /* it; 0 if it wasn't */
     bool is_trickling;  /* whether further candidates may come later (RFC 8840 4.1) */
     bool is_lite;       /* whether it answers connectivity checks alone (RFC 8839 5.3) */
     size_t candidates;  /* how many candidates it tells */
@@ -508,7 +508,7 @@ enum {
 };
 
 /* Copies such a text of the browser's transport to the front of a buffer of len bytes, and writes its length in bytes
- * into needed. JILQAMUR_TOO_SMALL, and the buffer is unchanged; JILQAMUR_NOTHING where it isn't told, or
+ * into needed. JILQAMUR_TOO_SMALL, and the buffer is unchanged; JILQAMUR_NOTHING if it isn't told, or
  * JILQAMUR_MEMORY, and nothing has changed. */
 uint32_t jilqamur_end_remote_text(jilqamur_end *end, uint8_t text, uint8_t *buffer, size_t len, size_t *needed);
 
@@ -526,7 +526,7 @@ typedef struct jilqamur_section {
 
 /* Copies the name of the agreed section of this place, counted from 0 in the order of the texts, to the front of a
  * buffer of len bytes, writes its length in bytes into needed, and what is told beside into section.
- * JILQAMUR_TOO_SMALL, and the buffer is unchanged, while needed and section are written; JILQAMUR_NOTHING where no
+ * JILQAMUR_TOO_SMALL, and the buffer is unchanged, while needed and section are written; JILQAMUR_NOTHING if no
  * section of that place is agreed. */
 uint32_t jilqamur_end_agreed_section(jilqamur_end *end, size_t index, uint8_t *buffer, size_t len, size_t *needed,
                                      jilqamur_section *section);
@@ -535,7 +535,7 @@ uint32_t jilqamur_end_agreed_section(jilqamur_end *end, size_t index, uint8_t *b
 uint32_t jilqamur_end_agreed_row(jilqamur_end *end, size_t section, size_t index, uint8_t *buffer, size_t len,
                                  size_t *needed, jilqamur_row *row);
 
-/* Writes an SSRC that the other end names in an agreed section, by the places of both. JILQAMUR_NOTHING where there is
+/* Writes an SSRC that the other end names in an agreed section, by the places of both. JILQAMUR_NOTHING if there is
  * none, and ssrc is unchanged. */
 uint32_t jilqamur_end_agreed_ssrc(jilqamur_end *end, size_t section, size_t index, uint32_t *ssrc);
 
@@ -552,7 +552,7 @@ typedef struct jilqamur_stream {
 
 /* Opens a sending stream of this SSRC for the agreed row of a payload type, and writes its number, counted from 0 over
  * the streams of both directions, into stream. With redundancy, distances are how many payloads back the older ones
- * stand: rising, 1 to 8. JILQAMUR_NOT_TEXT, JILQAMUR_NOT_MADE without an end, JILQAMUR_OUT_OF_RANGE for parameters off
+ * are: rising, 1 to 8. JILQAMUR_NOT_TEXT, JILQAMUR_NOT_MADE without an end, JILQAMUR_OUT_OF_RANGE for parameters off
  * the ranges above; else the first that holds of JILQAMUR_NO_SECTION, JILQAMUR_ROW_NOT_AGREED, JILQAMUR_ROW_DIFFERS,
  * JILQAMUR_WRONG_DIRECTION, JILQAMUR_SSRC_NOT_NAMED and JILQAMUR_ALREADY_OPEN, or JILQAMUR_MEMORY, and nothing has
  * changed. */
@@ -561,7 +561,7 @@ uint32_t jilqamur_end_open_sender(jilqamur_end *end, const uint8_t *mid, size_t 
                                   size_t count, size_t *stream);
 
 /* Opens a receiving stream in the same way. Past a missing datagram a unit is handed out only once more than hold_back
- * frames are complete. At most held packets wait. Refused as above, JILQAMUR_OUT_OF_RANGE where held isn't
+ * frames are complete. At most held packets wait. Refused as above, JILQAMUR_OUT_OF_RANGE if held isn't
  * JILQAMUR_MIN_HELD to JILQAMUR_MAX_HELD. */
 uint32_t jilqamur_end_open_receiver(jilqamur_end *end, const uint8_t *mid, size_t mid_len, uint32_t ssrc,
                                     uint8_t payload_type, size_t hold_back, size_t held, size_t *stream);
@@ -586,14 +586,14 @@ typedef struct jilqamur_values {
     bool has_video_content_type; /* whether the content type is given */
     uint8_t video_content_type; /* what the video shows */
     bool has_capture_time;      /* whether the time of capture is given */
-    uint64_t capture_time;      /* it: NTP time, in seconds with 32 bits before and 32 behind the point */
+    uint64_t capture_time;      /* it: NTP time, in seconds with 32 bits before and 32 after the point */
     bool has_clock_offset;      /* whether the clock's offset is given; carried with the time of capture alone */
-    int64_t clock_offset;       /* how far the sender's clock is ahead, in seconds with 32 bits behind the point */
+    int64_t clock_offset;       /* how far the sender's clock is ahead, in seconds with 32 bits after the point */
 } jilqamur_values;
 
 /* Sends a sample of sample_len bytes, of the forms at jilqamur_packetizer_packetize, under a time in ticks of the row's
  * clock: its datagrams are left to be fetched in place of those before, and count is how many there are. They carry the
- * values that are given, and the section's name where mid_len is not 0, each if the agreed map has a number for it
+ * values that are given, and the section's name if mid_len is not 0, each if the agreed map has a number for it
  * (RFC 8285, RFC 9143 15). JILQAMUR_NOT_TEXT, JILQAMUR_NOT_MADE without an end, JILQAMUR_NO_STREAM; else the first that
  * holds of JILQAMUR_STREAM_FAILED, JILQAMUR_TIME_TOO_LARGE, JILQAMUR_LIMIT_TOO_SMALL and JILQAMUR_PAYLOAD, and the end
  * is unchanged; or JILQAMUR_MEMORY, and the stream sends no more. The datagrams that were left before stay then, and
@@ -605,22 +605,22 @@ uint32_t jilqamur_end_push_sample(jilqamur_end *end, size_t stream, uint64_t tic
 /* Sends a datagram of len bytes again, as the stream sent it, under the SSRC and the type of its repairs (RFC 4588 4):
  * the repair is left to be fetched as the only datagram, in place of those before. JILQAMUR_NOT_MADE without an end,
  * JILQAMUR_NO_STREAM; else the first that holds of JILQAMUR_NO_REPAIR, JILQAMUR_NOT_OWN and JILQAMUR_LIMIT_TOO_SMALL
- * where two bytes more pass the stream's limit, or JILQAMUR_MEMORY, and nothing has changed. */
+ * if two bytes more pass the stream's limit, or JILQAMUR_MEMORY, and nothing has changed. */
 uint32_t jilqamur_end_repair(jilqamur_end *end, size_t stream, const uint8_t *datagram, size_t len);
 
 /* Copies the datagram of this place, counted from 0, to the front of a buffer of len bytes, and writes its length in
- * bytes into needed. JILQAMUR_TOO_SMALL, and the buffer is unchanged; JILQAMUR_NOTHING where there is none of that
+ * bytes into needed. JILQAMUR_TOO_SMALL, and the buffer is unchanged; JILQAMUR_NOTHING if there is none of that
  * place. The datagrams stay until the next sample or repair that is not refused. */
 uint32_t jilqamur_end_datagram(jilqamur_end *end, size_t index, uint8_t *buffer, size_t len, size_t *needed);
 
-/* Takes a datagram of len bytes in: JILQAMUR_OK where a receiving stream took it, whose number is written into stream,
+/* Takes a datagram of len bytes in: JILQAMUR_OK if a receiving stream took it, whose number is written into stream,
  * and its widened sequence number into number. JILQAMUR_NOT_MADE without an end; else the first that holds of
  * JILQAMUR_UNREADABLE, JILQAMUR_FOREIGN, JILQAMUR_DAMAGED and JILQAMUR_REFUSED, or JILQAMUR_MEMORY, and the end is
  * unchanged. */
 uint32_t jilqamur_end_receive(jilqamur_end *end, const uint8_t *datagram, size_t len, size_t *stream, uint64_t *number);
 
-/* Polls a receiving stream: JILQAMUR_OK where a unit is ready, which jilqamur_end_unit fetches. JILQAMUR_NOT_MADE
- * without an end, JILQAMUR_NO_STREAM; JILQAMUR_NOTHING where no unit is ready, JILQAMUR_PAYLOAD where a packet of the
+/* Polls a receiving stream: JILQAMUR_OK if a unit is ready, which jilqamur_end_unit fetches. JILQAMUR_NOT_MADE
+ * without an end, JILQAMUR_NO_STREAM; JILQAMUR_NOTHING if no unit is ready, JILQAMUR_PAYLOAD if a packet of the
  * next frame is refused, which is then done with, or JILQAMUR_MEMORY, and the frame stays. */
 uint32_t jilqamur_end_poll(jilqamur_end *end, size_t stream);
 
@@ -809,13 +809,13 @@ typedef struct jilqamur_sender {
 
 #define JILQAMUR_SENDER_CLOSED {false, 0}
 
-/* Opens a stream that sent nothing, of the codec of this name, without header extensions. JILQAMUR_IN_USE where the
+/* Opens a stream that sent nothing, of the codec of this name, without header extensions. JILQAMUR_IN_USE if the
  * handle is open; JILQAMUR_OUT_OF_RANGE for numbers off their ranges, a clock rate of 0 or a codec that has no payload
  * format, JILQAMUR_NOT_TEXT for a name that is no text, or JILQAMUR_MEMORY; and it is unchanged. */
 uint32_t jilqamur_sender_open(jilqamur_sender *sender, const jilqamur_sender_params *params,
                               const jilqamur_format *format, const uint8_t *codec, size_t codec_len);
 
-/* Frees the stream: JILQAMUR_OK, or JILQAMUR_CLOSED where the handle is closed. It is closed afterwards. */
+/* Frees the stream: JILQAMUR_OK, or JILQAMUR_CLOSED if the handle is closed. It is closed afterwards. */
 uint32_t jilqamur_sender_close(jilqamur_sender *sender);
 
 /* Sends a sample of len bytes, of the forms at jilqamur_packetizer_packetize, under a time in ticks of the stream's
@@ -828,7 +828,7 @@ uint32_t jilqamur_sender_push_sample(jilqamur_sender *sender, uint64_t ticks, co
                                      size_t *count);
 
 /* Copies the datagram of this place, counted from 0, to the front of a buffer of len bytes, and writes its length in
- * bytes into needed. JILQAMUR_TOO_SMALL, and the buffer is unchanged; JILQAMUR_NOTHING where there is none of that
+ * bytes into needed. JILQAMUR_TOO_SMALL, and the buffer is unchanged; JILQAMUR_NOTHING if there is none of that
  * place. */
 uint32_t jilqamur_sender_datagram(jilqamur_sender *sender, size_t index, uint8_t *buffer, size_t len, size_t *needed);
 
@@ -847,17 +847,17 @@ typedef struct jilqamur_receiver {
 uint32_t jilqamur_receiver_open(jilqamur_receiver *receiver, const jilqamur_format *format, const uint8_t *codec,
                                 size_t codec_len, size_t hold_back, size_t held);
 
-/* Frees the stream: JILQAMUR_OK, or JILQAMUR_CLOSED where the handle is closed. It is closed afterwards. */
+/* Frees the stream: JILQAMUR_OK, or JILQAMUR_CLOSED if the handle is closed. It is closed afterwards. */
 uint32_t jilqamur_receiver_close(jilqamur_receiver *receiver);
 
 /* Takes a packet in, by what jilqamur_header_read says of its datagram, and its payload of len bytes without padding:
- * JILQAMUR_OK, and number is its widened sequence number. JILQAMUR_REFUSED where that came before, or is 1,024 or more
+ * JILQAMUR_OK, and number is its widened sequence number. JILQAMUR_REFUSED if that came before, or is 1,024 or more
  * below the greatest, or JILQAMUR_MEMORY, and the stream is unchanged. */
 uint32_t jilqamur_receiver_push(jilqamur_receiver *receiver, uint16_t sequence_number, uint32_t timestamp, bool marker,
                                 const uint8_t *payload, size_t len, uint64_t *number);
 
-/* JILQAMUR_OK where a unit is ready, which jilqamur_receiver_unit fetches. JILQAMUR_NOTHING where none is,
- * JILQAMUR_PAYLOAD where a packet of the next frame is refused, which is then done with, or JILQAMUR_MEMORY, and the
+/* JILQAMUR_OK if a unit is ready, which jilqamur_receiver_unit fetches. JILQAMUR_NOTHING if none is,
+ * JILQAMUR_PAYLOAD if a packet of the next frame is refused, which is then done with, or JILQAMUR_MEMORY, and the
  * frame stays. */
 uint32_t jilqamur_receiver_poll(jilqamur_receiver *receiver);
 

@@ -1,4 +1,4 @@
-/* Fails one call of malloc or realloc, and only that: the one whose number, counted from 1, stands in FAIL_NTH. Then
+/* Fails one call of malloc or realloc, and only that: the one whose number, counted from 1, is in FAIL_NTH. Then
  * it writes a byte to the file descriptor in FAIL_TOLD. It is preloaded before a built program, or, with WRAPPED,
  * linked into one by -Wl,--wrap=malloc,--wrap=realloc. */
 #include <stdlib.h>
@@ -15,7 +15,7 @@
 void *REAL(malloc)(size_t size);
 void *REAL(realloc)(void *block, size_t size);
 
-long fail_nth; /* how many calls there are up to the one that fails; 0 where none does any more */
+long fail_nth; /* how many calls there are up to the one that fails; 0 if none does any more */
 static int told = -1;
 
 static __attribute__((constructor)) void begin(void)

@@ -48,7 +48,7 @@ static void say_bytes(const uint8_t *bytes, size_t len)
     say("\n");
 }
 
-/* Asks again where memory is refused, once `undo` was done. */
+/* Asks again if memory is refused, once `undo` was done. */
 #define ASK_AFTER(name, undo, call)     \
     do {                                \
         uint32_t asked = (call);        \
@@ -73,7 +73,7 @@ static void window(void)
     say("window_close: %u\n", jilqamur_window_close(&handle));
 }
 
-/* A packetizer and a depacketizer of one codec, of a sample at so many bytes a payload. */
+/* A packetizer and a depacketizer of one codec, of a sample at this many bytes a payload. */
 static void payloads(const char *name, uint32_t clock_rate, size_t mtu, const uint8_t *sample, size_t len)
 {
     jilqamur_packetizer packetizer = JILQAMUR_PACKETIZER_CLOSED;
@@ -93,7 +93,7 @@ static void payloads(const char *name, uint32_t clock_rate, size_t mtu, const ui
         jilqamur_packetizer_packet(&packetizer, k, bytes, sizeof bytes, &needed, &marker);
         say_bytes(bytes, needed);
         ASK("push", jilqamur_depacketizer_push(&depacketizer, k, 0, marker, bytes, needed));
-        /* the same frame again, behind a gap, for the drain */
+        /* the same frame again, after a gap, for the drain */
         ASK("push", jilqamur_depacketizer_push(&depacketizer, 100 + k, 9, marker, bytes, needed));
     }
     ASK("pop", jilqamur_depacketizer_pop(&depacketizer));
@@ -197,7 +197,7 @@ static void exchange(jilqamur_end *a, jilqamur_end *b)
     ASK("open_receiver", jilqamur_end_open_receiver(b, JILQAMUR_TEXT("1"), 45, 96, 2, JILQAMUR_MIN_HELD, &stream));
 }
 
-/* A sample of one of two sending streams. Where memory was refused the stream sends no more. */
+/* A sample of one of two sending streams. If memory was refused the stream sends no more. */
 static bool sends(jilqamur_end *end, size_t stream)
 {
     jilqamur_values values;
@@ -434,7 +434,7 @@ static long try_each(int part)
         compare(part, nth);
     }
     printf("part %d: %ld allocations, %ld told\n", part, nth - 2, told);
-    /* a list that grows by a guess asks for less where that is refused, so not each refusal is seen */
+    /* a list that grows by a guess asks for less if that is refused, so not each refusal is seen */
     must(told > 0 && told >= 3 * (nth - 2) / 4, "refusals aren't told");
     return nth - 2;
 }

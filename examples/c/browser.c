@@ -7,7 +7,7 @@
 
 enum { MOST_TEXT = 1 << 16 };
 
-/* Ends the program where a call was refused. */
+/* Ends the program if a call was refused. */
 static void check(uint32_t answer)
 {
     if (answer == JILQAMUR_OK)

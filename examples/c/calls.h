@@ -18,7 +18,7 @@ static inline void say(const char *what, uint32_t answer)
     printf("%s: %s\n", what, jilqamur_error_text(answer));
 }
 
-/* Ends the program where a call is refused that must not be. */
+/* Ends the program if a call is refused that must not be. */
 static inline void check(uint32_t answer)
 {
     if (answer == JILQAMUR_OK)

@@ -48,7 +48,7 @@ static size_t below(size_t bound)
     return (size_t)(state >> 33) % bound;
 }
 
-/* Ends the run where an answer isn't one of those that random bytes may have. */
+/* Ends the run if an answer isn't one of those that random bytes may have. */
 static void must(bool holds, const char *what)
 {
     if (!holds) {
@@ -57,7 +57,7 @@ static void must(bool holds, const char *what)
     }
 }
 
-/* Bytes in memory of just their length, so that the address sanitizer sees what is read behind them. */
+/* Bytes in memory of just their length, so that the address sanitizer sees what is read after them. */
 static uint8_t *random_bytes(size_t len)
 {
     uint8_t *bytes = malloc(len ? len : 1);
@@ -73,7 +73,7 @@ static void progress(const char *what, long done, long count)
         fprintf(stderr, "fuzz: %ld of %ld %s\n", done, count, what);
 }
 
-/* Sections for the next offer or answer: one of audio, and one of video where the end has the default rows. */
+/* Sections for the next offer or answer: one of audio, and one of video if the end has the default rows. */
 static void gather(jilqamur_end *end, bool with_defaults, uint32_t ssrc)
 {
     must(jilqamur_end_section(end, JILQAMUR_TEXT("0"), false, true, true, &ssrc, 1) == JILQAMUR_OK, "no section");
@@ -236,7 +236,7 @@ static void datagrams(long count)
            of_codecs ? "units of codecs" : "none of codecs", payloads ? "payloads" : "no payloads");
 }
 
-/* A text with up to three changes: a byte is another one, a stretch is gone, or stands twice. */
+/* A text with up to three changes: a byte is another one, a stretch is gone, or is twice. */
 static uint8_t *changed(const uint8_t *text, size_t len, size_t *after)
 {
     static uint8_t work[3 * MOST_TEXT];
@@ -268,7 +268,7 @@ static bool is_refusal_of_exchange(uint32_t answer)
     return answer == JILQAMUR_NOT_TEXT || (answer >= JILQAMUR_NOT_WRITABLE && answer <= JILQAMUR_NO_COMMON_ROW);
 }
 
-/* A new end with default rows behind a handle, which offers. */
+/* A new end with default rows after a handle, which offers. */
 static void renew(jilqamur_end *end, uint64_t session, bool offers)
 {
     if (jilqamur_end_close(end) != JILQAMUR_OK)

@@ -34,7 +34,7 @@ static size_t from_hex(const char *text, uint8_t *bytes, size_t room)
     return len;
 }
 
-/* The stream of an SSRC, which is opened where there is none. */
+/* The stream of an SSRC, which is opened if there is none. */
 static stream *stream_of(uint32_t ssrc, const char *codec)
 {
     const jilqamur_format format = {.clock_rate = 48000};

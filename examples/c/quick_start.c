@@ -6,7 +6,7 @@
 
 #include "jilqamur.h"
 
-/* Ends the program where a call was refused. */
+/* Ends the program if a call was refused. */
 static void check(uint32_t answer)
 {
     if (answer == JILQAMUR_OK)

@@ -62,7 +62,7 @@ static const line lines[] = {
     VIDEO("H266 with decoding order numbers", "H266", "sprop-max-don-diff=1", "\0\0\0\1\0\x39", "\0\0\0\1\0\x39"),
 };
 
-/* The datagrams of the samples, one behind the other. */
+/* The datagrams of the samples, one after the other. */
 static uint8_t datagrams[1 << 24];
 static size_t datagram_ends[MOST_DATAGRAMS];
 static size_t datagram_count;
@@ -121,7 +121,7 @@ static uint32_t connect(jilqamur_end *a, jilqamur_end *b, const line *l, uint32_
     return wrong | jilqamur_end_accept(a, text, len);
 }
 
-/* Sends so many samples of the last SSRC, with redundancy one and three packets back where the row has it. */
+/* Sends this many samples of the last SSRC, with redundancy one and three packets back if the row has it. */
 static void send_samples(jilqamur_end *a, const line *l, uint32_t ssrc, size_t count)
 {
     static uint8_t sample[MOST_SIZE];
@@ -148,7 +148,7 @@ static void send_samples(jilqamur_end *a, const line *l, uint32_t ssrc, size_t c
     }
 }
 
-/* Receives the datagrams, with a poll behind each; how many units came. */
+/* Receives the datagrams, with a poll after each; how many units came. */
 static size_t receive_all(jilqamur_end *b)
 {
     static uint8_t unit_bytes[2 * MOST_SIZE];
@@ -168,7 +168,7 @@ static size_t receive_all(jilqamur_end *b)
     return units;
 }
 
-/* Two ends with so many streams, of which the last carries so many samples. */
+/* Two ends with so many streams, of which the last carries this many samples. */
 static times carry(const line *l, uint32_t streams, size_t count)
 {
     jilqamur_end a = JILQAMUR_END_CLOSED, b = JILQAMUR_END_CLOSED;

@@ -1,4 +1,4 @@
-/* Reads datagrams, one a line in hexadecimal behind "receive E", and says of each what `rtplines` says of it at an end
+/* Reads datagrams, one a line in hexadecimal after "receive E", and says of each what `rtplines` says of it at an end
  * whose one receiving stream has the SSRC and the payload type that are given. With FUZZ N, N random datagrams. */
 #include <inttypes.h>
 #include <stdio.h>
@@ -34,7 +34,7 @@ static size_t from_hex(const char *text, uint8_t *bytes)
     return len;
 }
 
-/* A header that was read is written as it was read, where it has no extension block. */
+/* A header that was read is written as it was read, if it has no extension block. */
 static void write_again(const uint8_t *datagram, size_t len)
 {
     jilqamur_header header;
