@@ -9,6 +9,8 @@
 //! Handles ([`End`], [`Window`], [`Sender`] and the others) are `Send` and not `Sync`: one may move to another thread,
 //! and has one call at a time; handles share nothing with each other.
 
+#![warn(missing_docs)]
+
 use crate::error::code;
 use std::fmt;
 
