@@ -2,8 +2,8 @@
 //! that exchange offers and answers, send samples and receive units, and streams by codec, from a proved library.
 //!
 //! Start at [`End`], or without session texts at [`Sender`] and [`Receiver`]; [`Packetizer`] and [`Depacketizer`] know
-//! no headers, and [`Forwarder`] sends packets on. A refused call changes nothing, and its [`EndError`] says why and
-//! what it was about.
+//! no headers, and [`Forwarder`] sends packets on. A refused call changes nothing but what its documentation names, and
+//! its [`EndError`] says why, and what it was about.
 //!
 //! A sample is the codec's bytes of a frame or an audio packet: of AV1 the OBUs of a temporal unit, of which only the
 //! last may have no size; of H.264, H.265 and H.266 an access unit with start codes, not lengths; of AMR-WB a header
