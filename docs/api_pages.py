@@ -15,7 +15,6 @@ from functools import lru_cache
 from crate_pages import CRATES, ROOT, STARTS, root_of, sources, used, wrapped
 
 COMMENT = r"((?:^ *///[^\n]*\n)*)"
-COMMENT4 = r"((?:^ {4}///[^\n]*\n)*)"
 ATTRIBUTES = r"((?:^ *#\[[^\n]*\n)*)"
 WORDS = r"(?:const |ghost )?(fn|struct|enum|trait|const|static|type) (\w+)"
 
@@ -52,11 +51,13 @@ def called(name, comment, text):
 
 
 def members(kind, body):
-    """The public fields of a struct, or the variants of an enum: each in a point, with its comment."""
-    what = r"pub (\w+: [^\n]*?)" if kind == "struct" else r"(\w+(?:\([^\n]*\)| \{)?)"
-    for comment, said in re.findall(COMMENT4 + r"(?:^ {4}#\[[^\n]*\n)*^ {4}" + what + ",?$", body, re.M):
+    """The public fields of a struct, or the variants of an enum with their fields: each in a point with its comment."""
+    what = r" {4}pub (\w+: [^\n]*?)" if kind == "struct" else r" {4}( {4}\w+: [^\n]*?|\w+(?:\([^\n]*\)| \{)?)"
+    for comment, said in re.findall(COMMENT + r"(?:^ *#\[[^\n]*\n)*^" + what + ",?$", body, re.M):
         text = " ".join(line.strip()[3:].strip() for line in comment.strip().split("\n"))
-        yield from wrapped(f"- `{said.removesuffix(' {')}`" + (f": {text}" if text else ""))
+        depth = "  " if said.startswith(" ") else ""
+        point = f"{depth}- `{said.strip().removesuffix(' {')}`" + (f": {text}" if text else "")
+        yield from wrapped(point, depth + "  ") if not depth else [depth + line for line in wrapped(point[2:])]
 
 
 @lru_cache(maxsize=None)

@@ -65,21 +65,22 @@ sources.kept = {}
 
 
 def missing_promises():
-    code = sources()
+    functions = set(re.findall(r"\bfn (\w+)", sources()))
+    types = set(re.findall(r"\b(?:struct|enum|trait|type) (\w+)", sources()))
     for number, calls in promised_calls():
         outside = re.sub(r"\([^()]*\)", "", calls)
         for token in re.findall(r"`([^`]+)`", outside):
             name = token.split("::")[-1]
             if re.fullmatch(r"[a-z_0-9]+", name) and not (CRATES / name).is_dir():
-                if not re.search(r"\bfn " + re.escape(name) + r"\b", code):
+                if name not in functions:
                     yield f"PROMISES.md:{number}: no function {token}"
             elif re.fullmatch(r"[A-Z]\w*", name):
-                if not re.search(r"\b(?:struct|enum|trait|type) " + re.escape(name) + r"\b", code):
+                if name not in types:
                     yield f"PROMISES.md:{number}: no type {token}"
         for names, clauses in groups(calls):
             known = set().union(*(contract_clauses().get(name.split("::")[-1], set()) for name in names))
             for clause in clauses:
-                if clause not in known and not re.search(r"\bfn " + re.escape(clause) + r"\b", code):
+                if clause not in known and clause not in functions:
                     yield f"PROMISES.md:{number}: no clause {clause} of {', '.join(names)}"
 
 

@@ -91,12 +91,17 @@ fn say(what: &str, opened: Result<usize, EndError>) -> Result<(), EndError> {
     Ok(())
 }
 
+/// The front of an `m=` line: port 0 rejects the section.
+fn kind_and_port(line: &str) -> String {
+    line.split(' ').take(2).collect::<Vec<&str>>().join(" ")
+}
+
 fn main() -> Result<(), Box<dyn Error>> {
     let mut call = Call::new()?;
     for (number, file) in std::env::args().skip(1).enumerate() {
         let text = call.answer(&std::fs::read_to_string(file)?)?;
-        let lines: Vec<&str> = text.lines().filter(|line| line.starts_with("m=")).map(|line| &line[..9]).collect();
-        println!("offer {}, answered with {}", number + 1, lines.join(", "));
+        let ports = text.lines().filter(|line| line.starts_with("m=")).map(kind_and_port);
+        println!("offer {}, answered with {}", number + 1, ports.collect::<Vec<String>>().join(", "));
         call.open()?;
     }
     Ok(())

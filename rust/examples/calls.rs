@@ -2,7 +2,7 @@
 //! `examples/c/calls.c` prints, word for word.
 
 use jilqamur::{
-    Depacketizer, Direction, End, EndError, ExtensionIds, ForwardedPacket, Format, Forwarder, Header, Kind, MIN_HELD,
+    Depacketizer, Direction, End, EndError, ExtensionIds, Format, ForwardedPacket, Forwarder, Header, Kind, MIN_HELD,
     PacketInfo, Packetizer, PacketizerParams, Received, Receiver, Row, Section, Sender, SenderParams, Setup,
     StreamParams, Transport, Unit, Values, Window, Wish,
 };
@@ -82,8 +82,14 @@ fn say_header(datagram: &[u8]) {
     let Ok((h, _)) = read else { return };
     print!(
         "padding {}, extension {}, marker {}, type {}, number {}, time {}, ssrc {}, length {}, sources",
-        u8::from(h.has_padding), u8::from(h.has_extension), u8::from(h.marker), h.payload_type, h.sequence_number,
-        h.timestamp, h.ssrc, h.header_len,
+        u8::from(h.has_padding),
+        u8::from(h.has_extension),
+        u8::from(h.marker),
+        h.payload_type,
+        h.sequence_number,
+        h.timestamp,
+        h.ssrc,
+        h.header_len,
     );
     for source in h.csrc.iter().take(h.csrc_count as usize) {
         print!(" {source}");
@@ -105,8 +111,14 @@ fn headers() {
     let sources = [0xa2, 0x60, 0xff, 0xff, 0, 0, 0, 9, 0, 0, 0, 8, 0, 0, 0, 1, 0, 0, 0, 2];
     let padded = [9, 8, 0, 0, 3];
     let mut h = Header {
-        has_padding: true, marker: true, payload_type: 96, sequence_number: 258, timestamp: 3, ssrc: 0x01020304,
-        csrc_count: 1, ..Header::default()
+        has_padding: true,
+        marker: true,
+        payload_type: 96,
+        sequence_number: 258,
+        timestamp: 3,
+        ssrc: 0x01020304,
+        csrc_count: 1,
+        ..Header::default()
     };
     h.csrc[0] = 7;
     say_header(&PLAIN);
@@ -349,7 +361,8 @@ fn say_agreed(end: &End) {
             let (channels, resend, red) = (or_none(row.channels()), or_none(row.resend()), or_none(row.red()));
             println!(
                 "row {} {codec} {}, channels {channels}, resend {resend}, red {red}",
-                row.payload_type(), row.clock_rate(),
+                row.payload_type(),
+                row.clock_rate(),
             );
         }
         for ssrc in &section.ssrcs {
@@ -455,7 +468,10 @@ fn pass(a: &mut End, b: &mut End) -> Done {
     let Ok(arrival) = b.arrival(&whole)? else { return Err("no arrival".into()) };
     print!(
         "arrival at {}: low {}, time {}, marker {}",
-        arrival.stream, arrival.low, arrival.timestamp, u8::from(arrival.marker),
+        arrival.stream,
+        arrival.low,
+        arrival.timestamp,
+        u8::from(arrival.marker),
     );
     hex(", payload", arrival.payload);
     say_values(&arrival.values);
@@ -539,7 +555,11 @@ fn say_remote(end: &End) -> Done {
     let r = end.remote()?;
     println!(
         "setup {}, own {}, trickling {}, lite {}, candidates {}",
-        setup_told(r.setup), setup_told(r.own_setup), u8::from(r.is_trickling), u8::from(r.is_lite), r.candidates.len(),
+        setup_told(r.setup),
+        setup_told(r.own_setup),
+        u8::from(r.is_trickling),
+        u8::from(r.is_lite),
+        r.candidates.len(),
     );
     for text in [r.ufrag, r.password, r.fingerprint] {
         println!("{}", text.as_deref().unwrap_or("-"));

@@ -8,10 +8,7 @@ type Said = Result<String, Box<dyn std::error::Error>>;
 
 fn from_hex(text: &str) -> Vec<u8> {
     let digits = text.as_bytes();
-    digits
-        .chunks_exact(2)
-        .filter_map(|pair| u8::from_str_radix(std::str::from_utf8(pair).ok()?, 16).ok())
-        .collect()
+    digits.chunks_exact(2).filter_map(|pair| u8::from_str_radix(std::str::from_utf8(pair).ok()?, 16).ok()).collect()
 }
 
 fn hex(bytes: &[u8]) -> String {
@@ -69,11 +66,8 @@ fn section<'a>(word: &'a str, sources: &'a mut Sources) -> Result<Section<'a>, B
 
 fn exchange(end: &mut End, offer: Option<&str>, words: &[&str]) -> Said {
     let mut sources = vec![Sources::default(); words.len()];
-    let sections = words
-        .iter()
-        .zip(&mut sources)
-        .map(|(word, named)| section(word, named))
-        .collect::<Result<Vec<_>, _>>()?;
+    let sections =
+        words.iter().zip(&mut sources).map(|(word, named)| section(word, named)).collect::<Result<Vec<_>, _>>()?;
     let text = match offer {
         None => end.offer(&sections)?,
         Some(offer) => end.answer(&text_of(offer)?, &sections)?,
@@ -122,9 +116,7 @@ fn receive(end: &mut End, datagram: &[u8]) -> Said {
 fn poll(end: &mut End, stream: usize) -> Said {
     match end.poll(stream) {
         Ok(None) => Ok("none".into()),
-        Ok(Some(Unit { first, last, time, bytes, .. })) => {
-            Ok(format!("unit {first} {last} {time} {}", hex(&bytes)))
-        }
+        Ok(Some(Unit { first, last, time, bytes, .. })) => Ok(format!("unit {first} {last} {time} {}", hex(&bytes))),
         Err(refused) if refused.reason() == Reason::Payload => Ok("fault Payload".into()),
         Err(refused) => Err(refused.into()),
     }

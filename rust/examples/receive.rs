@@ -6,10 +6,7 @@ use std::io::{self, BufRead};
 
 fn from_hex(text: &str) -> Vec<u8> {
     let digits = text.as_bytes();
-    digits
-        .chunks_exact(2)
-        .filter_map(|pair| u8::from_str_radix(std::str::from_utf8(pair).ok()?, 16).ok())
-        .collect()
+    digits.chunks_exact(2).filter_map(|pair| u8::from_str_radix(std::str::from_utf8(pair).ok()?, 16).ok()).collect()
 }
 
 fn verdict(window: &mut Window, ssrc: u32, payload_type: u8, datagram: &[u8]) -> Result<String, Error> {

@@ -1,4 +1,4 @@
-//! Writes the datagrams of a stream as `rtprecord` reads them, a line `MILLISECONDS HEX` each, when they come decrypted.
+//! Writes the datagrams of a stream as `rtprecord` reads them, a line `MILLISECONDS HEX` for each that comes decrypted.
 //! `rtprecord FILE --pt 111=opus/48000/2` then makes a file that plays.
 
 use jilqamur::{Format, Sender, SenderParams};

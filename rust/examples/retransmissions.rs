@@ -2,20 +2,31 @@
 //! repeats them out of a store, and what can't be repaired any more is answered with a key frame (PLI, RFC 4585 6.3.1).
 
 use jilqamur::{Direction, End, EndError, Kind, MIN_HELD, Received, Row, Section, StreamParams};
-use std::collections::BTreeMap;
+use std::collections::VecDeque;
 
-/// The datagrams of the last second, by the low 16 bits of their numbers.
+/// How many datagrams are kept: about a second of them.
+const KEPT: usize = 500;
+
+/// The latest datagrams that were sent.
 #[derive(Default)]
-struct Store(BTreeMap<u16, Vec<u8>>);
+struct Store(VecDeque<Vec<u8>>);
 
 impl Store {
     fn keep(&mut self, datagram: &[u8]) {
-        self.0.insert(u16::from_be_bytes([datagram[2], datagram[3]]), datagram.to_vec());
+        if self.0.len() == KEPT {
+            self.0.pop_front();
+        }
+        self.0.push_back(datagram.to_vec());
+    }
+
+    /// The datagram whose number has these low 16 bits.
+    fn find(&self, low: u16) -> Option<&Vec<u8>> {
+        self.0.iter().rev().find(|kept| kept[2..4] == low.to_be_bytes())
     }
 
     /// The retransmissions of what a NACK asks for, as far as it is still kept.
     fn repairs(&self, end: &mut End, stream: usize, nack: &[u8]) -> Result<Vec<Vec<u8>>, EndError> {
-        asked(nack).iter().filter_map(|low| self.0.get(low)).map(|kept| end.sender(stream).repair(kept)).collect()
+        asked(nack).into_iter().filter_map(|low| self.find(low)).map(|kept| end.sender(stream).repair(kept)).collect()
     }
 }
 

@@ -7,10 +7,7 @@ use std::io::{self, BufRead};
 
 fn from_hex(text: &str) -> Vec<u8> {
     let digits = text.as_bytes();
-    digits
-        .chunks_exact(2)
-        .filter_map(|pair| u8::from_str_radix(std::str::from_utf8(pair).ok()?, 16).ok())
-        .collect()
+    digits.chunks_exact(2).filter_map(|pair| u8::from_str_radix(std::str::from_utf8(pair).ok()?, 16).ok()).collect()
 }
 
 fn hex(bytes: &[u8]) -> String {

@@ -115,9 +115,8 @@ impl Builder {
 
     /// The first row, or else the first extension, with which an end is refused for this reason.
     fn culprit(&self, reason: Reason) -> Option<Place> {
-        let is_refused = |rows, extensions| {
-            self.made(rows, false, extensions).is_err_and(|refused| refused.reason() == reason)
-        };
+        let is_refused =
+            |rows, extensions| self.made(rows, false, extensions).is_err_and(|refused| refused.reason() == reason);
         if let Some(last) = (0..self.rows.len()).find(|last| is_refused(last + 1, 0)) {
             let (row, codec, _) = &self.rows[last];
             return Some(Place::row(codec, row.payload_type()));

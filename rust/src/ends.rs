@@ -1,20 +1,12 @@
 //! Ends that send samples and receive units.
 
+use crate::datagrams::{Datagrams, fetched};
 use crate::error::{Reason, code};
-use crate::params::{Received, Row, StreamParams, Unit, handed_out};
+use crate::params::{Received, Row, StreamParams};
 use crate::refused::{EndError, Place, done, done_at, done_of};
 use crate::sys;
+use crate::units::{Unit, handed_out};
 use crate::values::Values;
-use std::ptr;
-
-/// What a call copies: it is called once for the size that is needed, and once for the bytes.
-pub(crate) fn fetched(mut call: impl FnMut(*mut u8, usize, &mut usize) -> u32) -> Vec<u8> {
-    let mut needed = 0;
-    call(ptr::NonNull::dangling().as_ptr(), 0, &mut needed);
-    let mut bytes = vec![0; needed];
-    call(bytes.as_mut_ptr(), bytes.len(), &mut needed);
-    bytes
-}
 
 /// An end of a session: what it offers, what it agreed on with the other end, and its streams.
 ///
@@ -63,14 +55,7 @@ impl End {
     pub fn row(&mut self, row: &Row, codec: &str, format: &str) -> Result<(), EndError> {
         // SAFETY: the handle is open, and pointers and lengths are those of one slice each.
         let answer = unsafe {
-            sys::jilqamur_end_row(
-                self.0.raw(),
-                row,
-                codec.as_ptr(),
-                codec.len(),
-                format.as_ptr(),
-                format.len(),
-            )
+            sys::jilqamur_end_row(self.0.raw(), row, codec.as_ptr(), codec.len(), format.as_ptr(), format.len())
         };
         done_at(answer, || Place::row(codec, row.payload_type()))
     }
@@ -215,7 +200,7 @@ impl End {
             )
         };
         done_of(answer, stream)?;
-        Ok(Datagrams { end: self, next: 0, count })
+        Ok(Datagrams::new(self, count))
     }
 
     /// A datagram that a stream sent, sent again under the SSRC and the type of its repairs (RFC 4588 4).
@@ -241,13 +226,7 @@ impl End {
         let (mut stream, mut number) = (0, 0);
         // SAFETY: the handle is open, and pointer and length are those of one slice.
         let answer = unsafe {
-            sys::jilqamur_end_receive(
-                self.0.raw(),
-                datagram.as_ptr(),
-                datagram.len(),
-                &mut stream,
-                &mut number,
-            )
+            sys::jilqamur_end_receive(self.0.raw(), datagram.as_ptr(), datagram.len(), &mut stream, &mut number)
         };
         match answer {
             code::OK => Ok(Received::Taken(stream, number)),
@@ -311,48 +290,3 @@ impl Drop for End {
         unsafe { sys::jilqamur_end_close(self.0.raw()) };
     }
 }
-
-/// The datagrams of a sample, in order.
-///
-/// ```
-/// use jilqamur::{Direction, End, Kind, Section, StreamParams};
-/// # let mut a = End::builder().codec("opus", 111).session(1).build()?;
-/// # let mut b = End::builder().codec("opus", 111).session(2).build()?;
-/// # let audio = |ssrcs| Section { mid: "0", kind: Kind::Audio, direction: Direction::SendRecv, ssrcs, repairs: &[] };
-/// # let offer = a.offer(&[audio(&[44])])?;
-/// # let answer = b.answer(&offer, &[audio(&[45])])?;
-/// # a.accept(&answer)?;
-/// # let stream = a.open_sender("0", 44, 111, StreamParams::new(1000, 1200, 1400), None)?;
-/// let datagrams = a.push_sample(stream, 0, &[1; 2000], None)?;
-/// assert_eq!(datagrams.len(), 2); // of at most 1,200 bytes of payload each
-/// # Ok::<(), jilqamur::EndError>(())
-/// ```
-#[derive(Debug)]
-pub struct Datagrams<'a> {
-    end: &'a mut End,
-    next: usize,
-    count: usize,
-}
-
-impl Iterator for Datagrams<'_> {
-    type Item = Vec<u8>;
-
-    fn next(&mut self) -> Option<Vec<u8>> {
-        if self.next == self.count {
-            return None;
-        }
-        let (end, index) = (&self.end.0, self.next);
-        self.next += 1;
-        Some(fetched(|buffer, len, needed| {
-            // SAFETY: the handle is open, and pointer and length are those of one slice.
-            unsafe { sys::jilqamur_end_datagram(end.raw(), index, buffer, len, needed) }
-        }))
-    }
-
-    fn size_hint(&self) -> (usize, Option<usize>) {
-        let left = self.count - self.next;
-        (left, Some(left))
-    }
-}
-
-impl ExactSizeIterator for Datagrams<'_> {}

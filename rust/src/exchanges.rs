@@ -1,6 +1,7 @@
 //! Offers and answers of ends.
 
-use crate::ends::{End, fetched};
+use crate::datagrams::fetched;
+use crate::ends::End;
 use crate::error::code;
 use crate::params::{AgreedSection, Direction, Kind, Row, Section};
 use crate::refused::{EndError, Place, done, done_at};
@@ -111,9 +112,8 @@ impl End {
         let mut is_there = true;
         let mid = fetched(|buffer, len, needed| {
             // SAFETY: the handle is open, and pointer and length are those of one slice.
-            let said = unsafe {
-                sys::jilqamur_end_agreed_section(self.0.raw(), index, buffer, len, needed, &mut parts)
-            };
+            let said =
+                unsafe { sys::jilqamur_end_agreed_section(self.0.raw(), index, buffer, len, needed, &mut parts) };
             is_there = said != code::NOTHING;
             said
         });
@@ -139,9 +139,7 @@ impl End {
         let mut row = Row::default();
         let codec = fetched(|buffer, len, needed| {
             // SAFETY: the handle is open, and pointer and length are those of one slice.
-            unsafe {
-                sys::jilqamur_end_agreed_row(self.0.raw(), section, index, buffer, len, needed, &mut row)
-            }
+            unsafe { sys::jilqamur_end_agreed_row(self.0.raw(), section, index, buffer, len, needed, &mut row) }
         });
         (String::from_utf8_lossy(&codec).into_owned(), row)
     }

@@ -1,6 +1,7 @@
 //! Packets that are sent on without putting frames together.
 
-use crate::ends::{End, fetched};
+use crate::datagrams::fetched;
+use crate::ends::End;
 use crate::error::code;
 use crate::params::Received;
 use crate::refused::{EndError, done, done_of};
@@ -240,8 +241,7 @@ impl Forwarder {
     pub fn place(&self, source: u64, number: u64, timestamp: u32) -> Option<Placed> {
         let mut placed = Placed::default();
         // SAFETY: the handle is open, and what is written is a place of its own.
-        let answer =
-            unsafe { sys::jilqamur_forwarder_place(self.0.raw(), source, number, timestamp, &mut placed) };
+        let answer = unsafe { sys::jilqamur_forwarder_place(self.0.raw(), source, number, timestamp, &mut placed) };
         (answer == code::OK).then_some(placed)
     }
 
@@ -249,8 +249,7 @@ impl Forwarder {
     pub fn forward(&mut self, source: u64, number: u64, timestamp: u32) -> Option<Placed> {
         let mut placed = Placed::default();
         // SAFETY: the handle is open, and what is written is a place of its own.
-        let answer =
-            unsafe { sys::jilqamur_forwarder_forward(self.0.raw(), source, number, timestamp, &mut placed) };
+        let answer = unsafe { sys::jilqamur_forwarder_forward(self.0.raw(), source, number, timestamp, &mut placed) };
         (answer == code::OK).then_some(placed)
     }
 

@@ -1,6 +1,10 @@
 //! RTP headers, padding, sequence numbers and replay windows (RFC 3550), packetizers and depacketizers by codec, ends
 //! that exchange offers and answers, send samples and receive units, and streams by codec, from a proved library.
 //!
+//! Start at [`End`], or without session texts at [`Sender`] and [`Receiver`]; [`Packetizer`] and [`Depacketizer`] know
+//! no headers, and [`Forwarder`] sends packets on. A refused call changes nothing but what its documentation names, and
+//! its [`EndError`] says why, and what it was about.
+//!
 //! A sample is the codec's bytes of a frame or an audio packet: of AV1 the OBUs of a temporal unit, of which only the
 //! last may have no size; of H.264, H.265 and H.266 an access unit with start codes, not lengths; of AMR-WB a header
 //! byte and the speech (RFC 4867 5.3). Units come out in the same forms: each OBU with its size, each NAL unit after
@@ -9,11 +13,14 @@
 //! Handles ([`End`], [`Window`], [`Sender`] and the others) are `Send` and not `Sync`: one may move to another thread,
 //! and has one call at a time; handles share nothing with each other.
 
+#![warn(missing_docs)]
+
 use crate::error::code;
 use std::fmt;
 
 mod browsers;
 mod builder;
+mod datagrams;
 mod ends;
 mod error;
 mod exchanges;
@@ -26,21 +33,22 @@ mod refused;
 mod stream_handles;
 mod streams;
 mod sys;
+mod units;
 mod values;
 
 pub use browsers::{Remote, Setup, Transport, Wish};
 pub use builder::Builder;
-pub use ends::{Datagrams, End};
+pub use datagrams::Datagrams;
+pub use ends::End;
 pub use error::Reason;
-pub use forwarding::{Arrival, Forwarder, ForwardedPacket, Placed};
+pub use forwarding::{Arrival, ForwardedPacket, Forwarder, Placed};
 pub use packet_info::PacketInfo;
-pub use params::{
-    AgreedSection, Direction, Kind, Received, Row, Section, StreamParams, TelephoneEvent, Unit,
-};
+pub use params::{AgreedSection, Direction, Kind, Received, Row, Section, StreamParams};
 pub use payloads::{Depacketizer, Fault, Packet, Packetizer, PacketizerParams};
 pub use refused::{EndError, Place};
 pub use stream_handles::{ReceivingStream, SendingStream};
 pub use streams::{Format, Receiver, Sender, SenderParams};
+pub use units::{TelephoneEvent, Unit};
 pub use values::{ExtensionIds, Names, Values};
 
 /// The least number of packets that a stream may be opened to hold at most.
@@ -150,8 +158,7 @@ impl Header {
     pub fn write(&self, buffer: &mut [u8]) -> Result<usize, Error> {
         let mut needed = 0;
         // SAFETY: pointer and length are those of one slice, and nothing that is written overlaps.
-        let answer =
-            unsafe { sys::jilqamur_header_write(self, buffer.as_mut_ptr(), buffer.len(), &mut needed) };
+        let answer = unsafe { sys::jilqamur_header_write(self, buffer.as_mut_ptr(), buffer.len(), &mut needed) };
         match answer {
             code::OK => Ok(needed),
             code::TOO_SMALL => Err(Error::TooSmall(needed)),
@@ -166,9 +173,7 @@ impl Header {
     pub fn payload<'a>(&self, rest: &'a [u8]) -> Result<&'a [u8], Error> {
         let mut len = 0;
         // SAFETY: pointer and length are those of one slice, and the length is a place of its own.
-        let answer = unsafe {
-            sys::jilqamur_payload_unpad(self.has_padding, rest.as_ptr(), rest.len(), &mut len)
-        };
+        let answer = unsafe { sys::jilqamur_payload_unpad(self.has_padding, rest.as_ptr(), rest.len(), &mut len) };
         if answer == code::OK { Ok(&rest[..len]) } else { Err(Error::Damaged) }
     }
 }
@@ -213,9 +218,8 @@ impl Window {
     pub fn receive(&mut self, datagram: &[u8]) -> Result<u64, Error> {
         let mut number = 0;
         // SAFETY: the handle is open, and pointer and length are those of one slice.
-        let answer = unsafe {
-            sys::jilqamur_window_receive(self.0.raw(), datagram.as_ptr(), datagram.len(), &mut number)
-        };
+        let answer =
+            unsafe { sys::jilqamur_window_receive(self.0.raw(), datagram.as_ptr(), datagram.len(), &mut number) };
         match answer {
             code::OK => Ok(number),
             code::UNREADABLE => Err(Error::Unreadable),

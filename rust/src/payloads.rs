@@ -1,10 +1,10 @@
 //! Packetizers and depacketizers that go by a codec's name.
 
-use crate::ends::fetched;
+use crate::datagrams::fetched;
 use crate::error::code;
-use crate::params::{Unit, handed_out};
 use crate::streams::Format;
 use crate::sys;
+use crate::units::{Unit, handed_out};
 use std::fmt;
 
 /// Why a packetizer or a depacketizer refuses, by the number that `include/jilqamur.h` gives it.
@@ -239,14 +239,7 @@ impl Depacketizer {
     pub fn push(&mut self, number: u64, timestamp: u32, marker: bool, payload: &[u8]) -> Result<(), Fault> {
         // SAFETY: the handle is open, and pointer and length are those of one slice.
         done(unsafe {
-            sys::jilqamur_depacketizer_push(
-                self.0.raw(),
-                number,
-                timestamp,
-                marker,
-                payload.as_ptr(),
-                payload.len(),
-            )
+            sys::jilqamur_depacketizer_push(self.0.raw(), number, timestamp, marker, payload.as_ptr(), payload.len())
         })
     }
 

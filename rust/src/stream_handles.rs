@@ -1,9 +1,10 @@
 //! Streams of an end, borrowed from it.
 
-use crate::ends::{Datagrams, End};
+use crate::datagrams::Datagrams;
+use crate::ends::End;
 use crate::forwarding::ForwardedPacket;
-use crate::params::Unit;
 use crate::refused::EndError;
+use crate::units::Unit;
 use crate::values::Values;
 
 /// A sending stream of an end; [`End::sender`] borrows it.

@@ -1,10 +1,10 @@
 //! Streams that go by a codec's name, without an end.
 
-use crate::ends::fetched;
+use crate::datagrams::fetched;
 use crate::error::code;
-use crate::params::{Unit, handed_out};
 use crate::refused::{EndError, Place, done, done_at};
 use crate::sys;
+use crate::units::{Unit, handed_out};
 
 /// How payloads are read and written, beside their codec.
 ///
@@ -28,13 +28,7 @@ impl Format {
     /// Of this clock rate, in ticks a second, at least 1.
     #[must_use]
     pub fn new(clock_rate: u32) -> Format {
-        Format {
-            clock_rate,
-            has_octet_align: false,
-            octet_align: false,
-            has_max_don_diff: false,
-            max_don_diff: 0,
-        }
+        Format { clock_rate, has_octet_align: false, octet_align: false, has_max_don_diff: false, max_don_diff: 0 }
     }
 
     /// With AMR-WB octet-aligned or not (RFC 4867 8.1).
@@ -134,9 +128,7 @@ impl Sender {
     pub fn new(codec: &str, format: Format, params: SenderParams) -> Result<Sender, EndError> {
         let sender = sys::Handle::closed();
         // SAFETY: the handle is closed, and pointer and length are those of one slice.
-        let answer = unsafe {
-            sys::jilqamur_sender_open(sender.raw(), &params, &format, codec.as_ptr(), codec.len())
-        };
+        let answer = unsafe { sys::jilqamur_sender_open(sender.raw(), &params, &format, codec.as_ptr(), codec.len()) };
         done_at(answer, || Place::Codec(codec.into()))?;
         Ok(Sender(sender))
     }
@@ -150,13 +142,7 @@ impl Sender {
         let mut count = 0;
         // SAFETY: the handle is open, and pointer and length are those of one slice.
         done(unsafe {
-            sys::jilqamur_sender_push_sample(
-                self.0.raw(),
-                ticks,
-                sample.as_ptr(),
-                sample.len(),
-                &mut count,
-            )
+            sys::jilqamur_sender_push_sample(self.0.raw(), ticks, sample.as_ptr(), sample.len(), &mut count)
         })?;
         let datagram = |index| {
             fetched(|buffer, len, needed| {

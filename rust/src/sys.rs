@@ -217,12 +217,7 @@ unsafe extern "C" {
     ) -> u32;
     pub(crate) fn jilqamur_forwarder_next(forwarder: *mut RawHandle, next: *mut u64) -> u32;
     pub(crate) fn jilqamur_header_read(datagram: *const u8, len: usize, header: *mut Header) -> u32;
-    pub(crate) fn jilqamur_header_write(
-        header: *const Header,
-        buffer: *mut u8,
-        len: usize,
-        needed: *mut usize,
-    ) -> u32;
+    pub(crate) fn jilqamur_header_write(header: *const Header, buffer: *mut u8, len: usize, needed: *mut usize) -> u32;
     pub(crate) fn jilqamur_payload_unpad(
         has_padding: bool,
         payload: *const u8,

@@ -159,9 +159,8 @@ impl ExtensionIds {
     pub fn read(&self, datagram: &[u8]) -> Result<(Values, Names), Error> {
         let (mut values, mut names) = (sys::Values::default(), sys::Names::default());
         // SAFETY: pointer and length are those of one slice, and what is written are places of their own.
-        let answer = unsafe {
-            sys::jilqamur_header_values(datagram.as_ptr(), datagram.len(), self, &mut values, &mut names)
-        };
+        let answer =
+            unsafe { sys::jilqamur_header_values(datagram.as_ptr(), datagram.len(), self, &mut values, &mut names) };
         match answer {
             code::OK => {
                 let names = Names {

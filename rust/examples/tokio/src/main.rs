@@ -66,10 +66,7 @@ async fn main() -> Result<(), Failure> {
     let (to_b, samples_of_b) = mpsc::channel(16);
     let (from_a, mut units_of_a) = mpsc::channel(16);
     let (from_b, mut units_of_b) = mpsc::channel(16);
-    let tasks = [
-        tokio::spawn(run(a, of_a, samples_of_a, from_a)),
-        tokio::spawn(run(b, of_b, samples_of_b, from_b)),
-    ];
+    let tasks = [tokio::spawn(run(a, of_a, samples_of_a, from_a)), tokio::spawn(run(b, of_b, samples_of_b, from_b))];
     for k in 0..5_u8 {
         to_a.send((960 * u64::from(k), vec![k, 1])).await?;
         to_b.send((960 * u64::from(k), vec![k, 2])).await?;

@@ -1,0 +1,66 @@
+//! The datagrams of samples, and what calls copy.
+
+use crate::ends::End;
+use crate::sys;
+use std::ptr;
+
+/// What a call copies: it is called once for the size that is needed, and once for the bytes.
+pub(crate) fn fetched(mut call: impl FnMut(*mut u8, usize, &mut usize) -> u32) -> Vec<u8> {
+    let mut needed = 0;
+    call(ptr::NonNull::dangling().as_ptr(), 0, &mut needed);
+    let mut bytes = vec![0; needed];
+    call(bytes.as_mut_ptr(), bytes.len(), &mut needed);
+    bytes
+}
+
+/// The datagrams of a sample, in order.
+///
+/// ```
+/// use jilqamur::{Direction, End, Kind, Section, StreamParams};
+/// # let mut a = End::builder().codec("opus", 111).session(1).build()?;
+/// # let mut b = End::builder().codec("opus", 111).session(2).build()?;
+/// # let audio = |ssrcs| Section { mid: "0", kind: Kind::Audio, direction: Direction::SendRecv, ssrcs, repairs: &[] };
+/// # let offer = a.offer(&[audio(&[44])])?;
+/// # let answer = b.answer(&offer, &[audio(&[45])])?;
+/// # a.accept(&answer)?;
+/// # let stream = a.open_sender("0", 44, 111, StreamParams::new(1000, 1200, 1400), None)?;
+/// let datagrams = a.push_sample(stream, 0, &[1; 2000], None)?;
+/// assert_eq!(datagrams.len(), 2); // of at most 1,200 bytes of payload each
+/// # Ok::<(), jilqamur::EndError>(())
+/// ```
+#[derive(Debug)]
+pub struct Datagrams<'a> {
+    end: &'a mut End,
+    next: usize,
+    count: usize,
+}
+
+impl<'a> Datagrams<'a> {
+    /// So many datagrams that an end left.
+    pub(crate) fn new(end: &'a mut End, count: usize) -> Datagrams<'a> {
+        Datagrams { end, next: 0, count }
+    }
+}
+
+impl Iterator for Datagrams<'_> {
+    type Item = Vec<u8>;
+
+    fn next(&mut self) -> Option<Vec<u8>> {
+        if self.next == self.count {
+            return None;
+        }
+        let (end, index) = (&self.end.0, self.next);
+        self.next += 1;
+        Some(fetched(|buffer, len, needed| {
+            // SAFETY: the handle is open, and pointer and length are those of one slice.
+            unsafe { sys::jilqamur_end_datagram(end.raw(), index, buffer, len, needed) }
+        }))
+    }
+
+    fn size_hint(&self) -> (usize, Option<usize>) {
+        let left = self.count - self.next;
+        (left, Some(left))
+    }
+}
+
+impl ExactSizeIterator for Datagrams<'_> {}
