@@ -78,18 +78,32 @@ func (p *peer) answer(offer string) (string, error) {
 // offer offers what was agreed on, in its order, and the slots that are new.
 func (p *peer) offer() (string, error) {
 	p.wants = false
+	if err := p.withdraw(); err != nil {
+		return "", err
+	}
+	own, err := p.end.Offer(p.wanted()...)
+	if err != nil {
+		return "", err
+	}
+	return p.dressed(own, jilqamur.ActPass)
+}
+
+// wanted are the sections of an offer.
+func (p *peer) wanted() (sections []jilqamur.Section) {
 	mids, isListed := append([]string{}, p.order...), map[string]bool{}
 	for _, mid := range mids {
 		isListed[mid] = true
 	}
-	for mid := range p.sections {
-		if !isListed[mid] {
+	for number := 1; number <= p.slots; number++ {
+		if mid := slotMid(number); p.sections[mid] != nil && !isListed[mid] {
 			mids = append(mids, mid)
 		}
 	}
-	var sections []jilqamur.Section
 	for _, mid := range mids {
 		s := p.sections[mid]
+		if s == nil {
+			continue // the end refuses the offer then
+		}
 		ssrcs, repairs := s.names()
 		wanted := jilqamur.Section{Mid: mid, Kind: s.kind, Direction: s.direction, SSRCs: ssrcs, Repairs: repairs}
 		if s.isStopped {
@@ -97,23 +111,36 @@ func (p *peer) offer() (string, error) {
 		}
 		sections = append(sections, wanted)
 	}
-	own, err := p.end.Offer(sections...)
-	if err != nil {
-		return "", err
-	}
-	return p.dressed(own, jilqamur.ActPass)
+	return sections
 }
 
-// accept takes the browser's answer. If it rejects a slot, the offer is given up, and the slot with it.
+// accept takes the browser's answer. If it is refused, the offer is given up, and with it the slots that were new.
 func (p *peer) accept(answer string) error {
 	err := p.end.AcceptBrowser(answer)
 	if err == nil {
 		return p.settle()
 	}
-	if withdrawn := p.end.Withdraw(); withdrawn != nil && !errors.Is(withdrawn, jilqamur.ErrNothing) {
+	isAgreed := map[string]bool{}
+	for _, mid := range p.order {
+		isAgreed[mid] = true
+	}
+	for mid, s := range p.sections {
+		if s.isOwn && !isAgreed[mid] {
+			delete(p.sections, mid)
+		}
+	}
+	if withdrawn := p.withdraw(); withdrawn != nil {
 		return withdrawn
 	}
 	return err
+}
+
+// withdraw gives an offer up that was never answered, if there is one.
+func (p *peer) withdraw() error {
+	if err := p.end.Withdraw(); !errors.Is(err, jilqamur.ErrNothing) {
+		return err
+	}
+	return nil
 }
 
 // dressed makes a text of the end one for the browser.

@@ -158,6 +158,8 @@ const actions = {
   },
   leave: async () => {
     isOver = true;
+    for (const track of camera.getTracks()) track.stop();
+    await pause(2000); // for what is under way
     await tell();
     await post('/leave');
     pc.close();

@@ -2,6 +2,7 @@ package main
 
 import (
 	"fmt"
+	"time"
 
 	"jilqamur"
 )
@@ -20,6 +21,7 @@ type peer struct {
 	ssrcs     uint32              // how many SSRCs were given
 	slots     int                 // how many sections the end made
 	counts    map[string]*counts  // by audio and video
+	seen      time.Time           // when its page asked last
 }
 
 // section is a media section as the end wants it.
@@ -103,10 +105,13 @@ func (s *section) names() (ssrcs []uint32, repairs []jilqamur.Repair) {
 	return []uint32{s.out.ssrc}, repairs
 }
 
+// slotMid is the mid of a section that the end makes.
+func slotMid(number int) string { return fmt.Sprintf("s%d", number) }
+
 // newSlot makes a section in which media of others is sent to this peer.
 func (p *peer) newSlot(kind jilqamur.Kind) *section {
 	p.slots++
-	s := &section{mid: fmt.Sprintf("s%d", p.slots), kind: kind, direction: jilqamur.SendOnly, isOwn: true}
+	s := &section{mid: slotMid(p.slots), kind: kind, direction: jilqamur.SendOnly, isOwn: true}
 	s.out = p.newOutbound(s)
 	p.sections[s.mid] = s
 	return s
@@ -114,7 +119,7 @@ func (p *peer) newSlot(kind jilqamur.Kind) *section {
 
 // close ends the call.
 func (p *peer) close() {
-	p.transport.close()
+	go p.transport.close() // which may wait for a datagram that waits for the room
 	for _, s := range p.sections {
 		if s.out != nil && s.out.forwarder != nil {
 			s.out.forwarder.Close()

@@ -42,7 +42,8 @@ func (r *room) join(codec string, impaired impairment) (*peer, error) {
 	}
 	p.transport.media = func(datagram []byte) { r.within(func(now time.Time) { p.hear(datagram, now) }) }
 	p.transport.control = func(packet []byte) { r.within(func(now time.Time) { p.heed(packet, now) }) }
-	r.within(func(time.Time) {
+	r.within(func(now time.Time) {
+		p.seen = now
 		r.peers[id] = p
 		r.assign()
 	})
@@ -77,15 +78,13 @@ func (p *peer) isLost(ssrc uint32, number uint16) {
 	})
 }
 
-// leave lets a browser go; what it sent is taken from the others.
+// leave lets a browser go, within the lock; what it sent is taken from the others.
 func (r *room) leave(p *peer) {
-	r.within(func(time.Time) {
-		if r.peers[p.id] == p {
-			delete(r.peers, p.id)
-			r.assign()
-			p.close()
-		}
-	})
+	if r.peers[p.id] == p {
+		delete(r.peers, p.id)
+		r.assign()
+		p.close()
+	}
 }
 
 // ordered are the peers by their ids.
@@ -162,13 +161,19 @@ func (r *room) askedForKeyFrame(p *peer, ssrc uint32, now time.Time) {
 	}
 }
 
+// silence is after which time a page is taken to be closed.
+const silence = 30 * time.Second
+
 // tend asks for what is missing, forgets what is old, and reports each second, until the program ends.
 func (r *room) tend() {
 	for count := 0; ; count++ {
 		time.Sleep(20 * time.Millisecond)
 		r.within(func(now time.Time) {
-			for _, p := range r.peers {
+			for _, p := range r.ordered() {
 				p.tend(now, count%50 == 0)
+				if now.Sub(p.seen) > silence {
+					r.leave(p)
+				}
 			}
 		})
 	}

@@ -75,7 +75,11 @@ func (s *server) answer(r *http.Request, body []byte) (any, error) {
 	}
 	var p *peer
 	id, _ := strconv.Atoi(query.Get("peer"))
-	s.room.within(func(time.Time) { p = s.room.peers[id] })
+	s.room.within(func(now time.Time) {
+		if p = s.room.peers[id]; p != nil {
+			p.seen = now
+		}
+	})
 	if p == nil {
 		return nil, errNoPeer
 	}
@@ -89,7 +93,7 @@ func (s *server) answer(r *http.Request, body []byte) (any, error) {
 	case "/state":
 		return s.state(p), nil
 	case "/leave":
-		s.room.leave(p)
+		s.room.within(func(time.Time) { s.room.leave(p) })
 		return nil, nil
 	}
 	return nil, fmt.Errorf("no page %s", r.URL.Path)
