@@ -67,7 +67,7 @@ unfoldable pub ipv4_fragment : List ℕ → Option Fragment
 ipv4_fragment bytes =
     if nat_lt (length bytes) 20 then None
     else if is_ipv4 bytes && is_carrier (slice_index bytes 9) && is_ipv4_fragment bytes
-        && is_whole_piece (ipv4_header_length bytes) (u16_be bytes 2) bytes
+    && is_whole_piece (ipv4_header_length bytes) (u16_be bytes 2) bytes
     then with_end (ipv4_piece bytes)
     else None
 

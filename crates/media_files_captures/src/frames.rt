@@ -86,11 +86,7 @@ fn datagram_of(protocol: u8, bytes: &[u8]) -> Result<UdpDatagram<'_>, PassedOver
 }
 
 /// The datagram inside at most so many tunnels.
-fn datagram_behind(
-    protocol: u8,
-    bytes: &[u8],
-    most: usize,
-) -> Result<UdpDatagram<'_>, PassedOver>
+fn datagram_behind(protocol: u8, bytes: &[u8], most: usize) -> Result<UdpDatagram<'_>, PassedOver>
     ensures { shown result ≡ datagram_behind most (extended protocol bytes.now) }
 {
     let mut protocol = protocol;

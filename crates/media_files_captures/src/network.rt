@@ -90,11 +90,7 @@ pub(crate) fn network_packet(kind: u16, bytes: &[u8]) -> Result<(u16, &[u8]), Pa
 }
 
 /// The packet in a frame whose header has so many bytes, with the type of the packet at a place.
-fn typed_packet(
-    frame: &[u8],
-    kind_at: usize,
-    header_len: usize,
-) -> Result<(u16, &[u8]), PassedOver>
+fn typed_packet(frame: &[u8], kind_at: usize, header_len: usize) -> Result<(u16, &[u8]), PassedOver>
     requires { kind_at + 2 ≤ header_len }
     ensures { read_extension result
         ≡ behind header_len frame.now (network (u16_be frame.now kind_at) (drop header_len frame.now)) }
