@@ -12,6 +12,8 @@ import os
 import struct
 import sys
 
+import tunnels
+
 HERE = os.path.dirname(os.path.abspath(__file__))
 
 # The remainder of each byte by the generator 04c11db7, the most significant bit first.
@@ -276,6 +278,18 @@ def opus():
     return it
 
 
+def opus_inside():
+    """A packet for each way in which a datagram comes inside other packets."""
+    it = Stream(0xAAAAAAAA, 111, "opus", 48000, "opus", 0, 0)
+    packets = [b"\x68" + bytes(range(number, number + 30)) for number in range(tunnels.WAYS)]
+    for number, packet in enumerate(packets):
+        it.datagrams.append(rtp(it.ssrc, it.pt, 900 + number, 960 * number, 0, packet))
+        it.units.append((960 * number, True, packet))
+    it.file = opus_file(it.ssrc, 2, packets, [960] * len(packets))
+    it.track = opus_track(2)
+    return it
+
+
 def wave_format(tag, rate, bits):
     return struct.pack("<HHIIHHH", tag, 1, rate, 8000, 1, bits, 0)
 
@@ -432,10 +446,11 @@ def captures():
         ("rows.pcap", pcap_of_nanoseconds, [opus(), PCMU()]),
         ("rows.rtpdump", rtpdump, [PCMA(), G722()]),
         ("rows.hex", lines, [amr_wb()]),
+        ("rows.tunnels.pcap", tunnels.pcap, [opus_inside()]),
     ]
     for name, write, streams in sets:
         data, times = write(streams)
-        yield name, data, list(zip(streams, times)), name.startswith("rows.pcap")
+        yield name, data, list(zip(streams, times)), "pcap" in name
 
 
 def datagrams_in(path):
@@ -546,8 +561,13 @@ def told():
     whole = in_one_file([one for one, _ in streams if one[0].track])
     print(f"call.mkv: {len(whole)} bytes, SHA-256 {hashlib.sha256(whole).hexdigest()}")
     print("  without SSRC 99999999: its codec has no track, or its units lack what a track needs")
-    print("packets passed over: 5 without UDP, 5 fragments, 5 cut, 0 malformed")
+    # of a browser's capture five fragments are the same, whose others never come
+    counts = [sum(pair) for pair in zip(tunnels.COUNTS, (1, 4, 0, 0))]
+    print(f"packets passed over: 5 without UDP, {sum(counts)} fragments, 5 cut, 0 malformed")
+    told = [f"{count} {why}" for count, why in zip(counts, ("without others", "repeated", "overlapping"))]
+    print(f"fragments passed over: {', '.join(told)}, {counts[3]} cut or inside a tunnel")
     print("datagrams passed over: 5 STUN, 0 DTLS, 5 RTCP, 0 of types without a row, 0 others")
+    print(f"datagrams that TURN relays: {tunnels.RELAYED}")
     print("repairs passed over: 1 of padding, 0 of no known stream")
 
 

@@ -1,11 +1,16 @@
 pub mod Captures
 pub mod FirstBytes
+pub mod Fragments
 pub mod Frames
 pub mod HexLines
+pub mod Ip
 pub mod Links
+pub mod Network
 pub mod Numbers
 pub mod Pcap
 pub mod Pcapng
 pub mod PcapngViews
 pub mod Rtpdump
 pub mod Runs
+pub mod Tunnels
+pub mod Turn

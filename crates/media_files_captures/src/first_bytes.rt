@@ -1,6 +1,6 @@
 //! Protocols sharing one port, distinguished by their first bytes (RFC 7983 7, RFC 5761 4).
 
-ghost use Rattle.std.specs.Prelude.{◌≡◌, ◌≢◌, ◌⊎◌, ◌↔◌};
+ghost use Rattle.std.specs.Prelude.{◌≡◌, ◌≢◌, ◌⊎◌, ◌↔◌, IsTrue};
 ghost use Rattle.media_files_captures.specs.FirstBytes.{IsByteWithin};
 
 /// The protocol of a datagram.
@@ -64,4 +64,11 @@ fn media_kind(datagram: &[u8]) -> DatagramKind
         192..=223 => DatagramKind::Rtcp,
         _ => DatagramKind::Rtp,
     }
+}
+
+/// Whether a file is compressed by gzip (RFC 1952 2.3.1), and so no capture before it is unpacked.
+pub fn is_gzip(file: &[u8]) -> bool
+    ensures { IsTrue result ↔ (IsByteWithin file.now 0 31 31 × IsByteWithin file.now 1 139 139) }
+{
+    file.len() >= 2 && file[0] == 0x1f && file[1] == 0x8b
 }

@@ -25,7 +25,7 @@ pub struct Interface {
 }
 
 /// So many bytes filled up to fours.
-fn padded(len: u16) -> usize
+pub(crate) fn padded(len: u16) -> usize
     ensures value { result ≡ padded len }
     ensures more { len ≤ result }
 {

@@ -3,18 +3,24 @@
 
 mod captures;
 mod first_bytes;
+mod fragments;
 mod frames;
 mod hex_lines;
 mod interfaces;
+mod ip;
 mod laws;
+mod network;
 mod numbers;
 mod pcap;
 mod pcapng;
 mod rtpdump;
+mod tunnels;
+mod turn;
 
 pub use captures::{Capture, CaptureError, CapturedPacket, Resolution};
-pub use first_bytes::{DatagramKind, kind_of};
-pub use frames::{LinkType, PassedOver, UdpDatagram, udp_datagram_in};
+pub use first_bytes::{DatagramKind, is_gzip, kind_of};
+pub use fragments::{IpFragment, Reassembly, fragment_in, make_room, take_fragment};
+pub use frames::{LinkType, PassedOver, UdpDatagram, udp_datagram_in, udp_datagram_of};
 pub use hex_lines::{HexDatagram, HexError, read_hex_lines};
 pub use interfaces::Interface;
 pub use laws::capture_laws;
@@ -22,3 +28,4 @@ pub use numbers::{ByteOrder, push_u16, push_u32, push_u64, rest_from, u16_at, u1
 pub use pcap::{PcapHeader, link_of, read_pcap};
 pub use pcapng::{PcapngBlock, PcapngReader, read_pcapng};
 pub use rtpdump::{Rtpdump, RtpdumpDatagram, read_rtpdump};
+pub use turn::relayed_in;

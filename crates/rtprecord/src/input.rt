@@ -1,10 +1,11 @@
 //! Captures of any kind.
 
+use crate::fragments::Fragments;
 use crate::recorder::Recorder;
 use anyhow::bail;
 use media_files::captures::{
-    Capture, CaptureError, CapturedPacket, HexDatagram, HexError, Resolution, Rtpdump,
-    read_hex_lines, read_pcap, read_pcapng, read_rtpdump, udp_datagram_in,
+    Capture, CaptureError, CapturedPacket, HexDatagram, HexError, PassedOver, Resolution, Rtpdump,
+    UdpDatagram, is_gzip, read_hex_lines, read_pcap, read_pcapng, read_rtpdump, udp_datagram_in,
 };
 use std::alloc::{AllocError, Global};
 
@@ -56,6 +57,9 @@ pub(crate) enum Input<'a> {
 impl<'a> Input<'a> {
     /// What a file holds: the first format that it begins as, and else lines of hexadecimal.
     pub(crate) fn of(alloc: Global, file: &'a [u8]) -> anyhow::Result<Input<'a>> {
+        if is_gzip(file) {
+            bail!("it is compressed by gzip: unpack it first, as by gunzip")
+        }
         match read_pcapng(alloc, file) {
             Ok(capture) => return Ok(Input::Packets(capture)),
             Err(CaptureError::Memory) => bail!("out of memory"),
@@ -81,12 +85,14 @@ impl<'a> Input<'a> {
     }
 
     /// Hands each datagram to the recorder, in their order.
-    pub(crate) fn feed(&self, recorder: &mut Recorder) -> Result<(), AllocError> {
+    pub(crate) fn feed(&self, alloc: Global, recorder: &mut Recorder) -> Result<(), AllocError> {
         match self {
             Input::Packets(capture) => {
+                let mut fragments = Fragments::new(alloc);
                 for packet in &capture.packets {
-                    feed_packet(packet, recorder)?;
+                    feed_packet(packet, &mut fragments, recorder)?;
                 }
+                fragments.leave(recorder);
                 recorder.leave(capture.unread.len());
             }
             Input::Dump(dump) => {
@@ -126,14 +132,28 @@ fn microseconds(ticks: u64, resolution: Resolution) -> u64 {
     u64::try_from(whole).unwrap_or(u64::MAX)
 }
 
+/// Hands the datagram of a packet to the recorder.
+pub(crate) fn feed_datagram(
+    packet: &CapturedPacket<'_>,
+    datagram: &UdpDatagram<'_>,
+    recorder: &mut Recorder,
+) -> Result<(), AllocError> {
+    recorder.take(&Arrival {
+        time: Some(microseconds(packet.ticks, packet.resolution)),
+        ports: Some((datagram.source_port, datagram.destination_port)),
+        bytes: datagram.payload,
+    })
+}
+
 /// Hands the datagram in a packet to the recorder, or counts why there is none.
-fn feed_packet(packet: &CapturedPacket<'_>, recorder: &mut Recorder) -> Result<(), AllocError> {
+fn feed_packet<'a>(
+    packet: &CapturedPacket<'a>,
+    fragments: &mut Fragments<'a>,
+    recorder: &mut Recorder,
+) -> Result<(), AllocError> {
     match udp_datagram_in(packet.link, packet.bytes) {
-        Ok(datagram) => recorder.take(&Arrival {
-            time: Some(microseconds(packet.ticks, packet.resolution)),
-            ports: Some((datagram.source_port, datagram.destination_port)),
-            bytes: datagram.payload,
-        }),
+        Ok(datagram) => feed_datagram(packet, &datagram, recorder),
+        Err(PassedOver::Fragment) => fragments.take(packet, recorder),
         Err(why) => {
             recorder.pass_over(why);
             Ok(())

@@ -3,7 +3,7 @@
 //! type, is listed, and written to a file that a player opens, named by both.
 //!
 //! The status is 0 if a stream was found; 1 if a capture or a session text can't be read, a file can't be written, or
-//! memory ran out; 2 if the arguments are wrong; 3 if no stream was found.
+//! memory ran out; 2 if the arguments are wrong; 3 if no stream was found, or one is encrypted.
 #![tactic(auto)]
 
 mod arguments;
@@ -11,16 +11,20 @@ mod av1;
 mod bits;
 mod files;
 mod found;
+mod fragments;
 mod gaps;
 mod input;
 mod layers;
 mod matroska;
 mod passed;
+mod places;
 mod recorder;
+mod repairs;
 mod report;
 mod reports;
 mod row;
 mod rows;
+mod secrecy;
 mod sections;
 mod seen;
 mod sizes;
@@ -92,7 +96,7 @@ fn take(rt: &HostRuntime, name: &str, recorder: &mut Recorder) -> anyhow::Result
         Err(fault) => bail!("{name}: {fault}"),
     };
     match Input::of(rt.alloc(), &file) {
-        Ok(input) => Ok(input.feed(recorder)?),
+        Ok(input) => Ok(input.feed(rt.alloc(), recorder)?),
         Err(fault) => bail!("{name}: {fault}"),
     }
 }
@@ -113,6 +117,9 @@ fn record(rt: &HostRuntime, arguments: Arguments) -> anyhow::Result<u8> {
     recorder.finish();
     if !report::print(rt, &recorder, &arguments)? {
         return Ok(1);
+    }
+    if recorder.streams.iter().any(|stream| stream.is_encrypted) {
+        return Ok(3);
     }
     let is_found = !recorder.streams.is_empty() || (arguments.is_list && !recorder.seen.is_empty());
     Ok(if is_found { 0 } else { 3 })

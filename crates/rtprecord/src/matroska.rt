@@ -173,7 +173,7 @@ fn parts_of<'a>(
 ) -> Result<Vec<Part<'a>>, AllocError> {
     let mut parts = Vec::new(alloc);
     for stream in streams {
-        if stream.units.is_empty() {
+        if stream.units.is_empty() || stream.is_encrypted {
             continue;
         }
         match track_of(alloc, stream)? {

@@ -1,18 +1,18 @@
 //! Datagrams to their streams.
 
-use crate::found::Found;
 use crate::input::Arrival;
 use crate::passed::{NOTHING, Passed, count};
 use crate::reports::{SenderReport, sender_report};
 use crate::row::Row;
 use crate::rows::Rows;
+use crate::secrecy::SecuredPorts;
 use crate::seen::{Seen, note};
 use crate::source::Source;
 use crate::stream::Stream;
 use h26x_payload::{Codec, SeqNo};
-use media_files::captures::{DatagramKind, PassedOver, kind_of};
+use media_files::captures::{DatagramKind, PassedOver, kind_of, relayed_in};
 use payload_core::RedDecoder;
-use rtp_wire::{ExtensionMap, RtpHeader, Ssrc, unpad_payload, wrapped_in};
+use rtp_wire::{ExtensionMap, RtpHeader, unpad_payload};
 use std::alloc::{AllocError, Global};
 
 /// How much is held and recorded.
@@ -26,9 +26,9 @@ pub(crate) struct Limits {
 /// The streams of a capture.
 #[derive(Drop)]
 pub(crate) struct Recorder {
-    alloc: Global,
+    pub(crate) alloc: Global,
     pub(crate) rows: Rows,
-    limits: Limits,
+    pub(crate) limits: Limits,
     /// The ports from or to which datagrams are taken; all if there are none.
     ports: Vec<u16>,
     pub(crate) passed: Passed,
@@ -40,15 +40,20 @@ pub(crate) struct Recorder {
     pub(crate) seen: Vec<Seen>,
     /// The first report of each sender.
     pub(crate) reports: Vec<SenderReport>,
+    /// The ports with DTLS.
+    pub(crate) secured: SecuredPorts,
 }
 
 /// A packet that was taken: what its header says, and its number.
 #[derive(Clone, Copy)]
-struct Taken<'a> {
-    header: &'a RtpHeader,
-    seq_no: SeqNo,
-    port: Option<u16>,
-    time: Option<u64>,
+pub(crate) struct Taken<'a> {
+    pub(crate) header: &'a RtpHeader,
+    pub(crate) seq_no: SeqNo,
+    /// The port of its source.
+    pub(crate) port: Option<u16>,
+    pub(crate) time: Option<u64>,
+    /// The ports that it comes from and goes to, if the capture says them.
+    pub(crate) ports: Option<(u16, u16)>,
 }
 
 /// The type and the payload of the primary block of a redundant payload (RFC 2198 3).
@@ -78,6 +83,7 @@ impl Recorder {
             streams: Vec::new(alloc),
             seen: Vec::new(alloc),
             reports: Vec::new(alloc),
+            secured: SecuredPorts::new(alloc),
         }
     }
 
@@ -85,7 +91,7 @@ impl Recorder {
     pub(crate) fn pass_over(&mut self, why: PassedOver) {
         match why {
             PassedOver::NotUdp => count(&mut self.passed.not_udp),
-            PassedOver::Fragment => count(&mut self.passed.fragments),
+            PassedOver::Fragment => count(&mut self.passed.fragments.unreadable),
             PassedOver::Cut => count(&mut self.passed.cut),
             PassedOver::Malformed => count(&mut self.passed.malformed),
         }
@@ -96,17 +102,33 @@ impl Recorder {
         self.unread = self.unread.saturating_add(len);
     }
 
-    /// Takes a datagram.
+    /// Takes a datagram, or the one that it relays.
     pub(crate) fn take(&mut self, arrival: &Arrival<'_>) -> Result<(), AllocError> {
         if !arrival.is_at(&self.ports) {
             count(&mut self.passed.elsewhere);
             return Ok(());
         }
+        let Some(bytes) = relayed_in(arrival.bytes) else {
+            return self.take_datagram(arrival);
+        };
+        count(&mut self.passed.relayed);
+        self.take_datagram(&Arrival {
+            time: arrival.time,
+            ports: arrival.ports,
+            bytes,
+        })
+    }
+
+    /// Takes a datagram that no TURN server relays.
+    fn take_datagram(&mut self, arrival: &Arrival<'_>) -> Result<(), AllocError> {
         match kind_of(arrival.bytes) {
             DatagramKind::Rtp => return self.take_rtp(arrival),
             DatagramKind::Rtcp => return self.take_rtcp(arrival.bytes),
             DatagramKind::Stun => count(&mut self.passed.stun),
-            DatagramKind::Dtls => count(&mut self.passed.dtls),
+            DatagramKind::Dtls => {
+                count(&mut self.passed.dtls);
+                return self.secured.note(arrival, self.limits.most_streams);
+            }
             _ => count(&mut self.passed.other),
         }
         Ok(())
@@ -180,12 +202,13 @@ impl Recorder {
             seq_no,
             port,
             time: arrival.time,
+            ports: arrival.ports,
         };
         self.take_payload(place, row, &taken, payload)
     }
 
     /// Takes the payload of a packet of a source: of redundant audio the primary block.
-    fn take_payload(
+    pub(crate) fn take_payload(
         &mut self,
         place: usize,
         row: Row,
@@ -197,16 +220,18 @@ impl Recorder {
         } else {
             Some((row, payload))
         };
-        let (Some((row, payload)), Some(source)) = (found, self.sources.get(place)) else {
+        let (Some((row, payload)), Some(source)) = (found, self.sources.get_mut(place)) else {
             return Ok(self.damage(place));
         };
         let ssrc = source.ssrc;
+        source.note_type(row.pt);
         let Some(place) = self.stream_place(ssrc, taken.port, row)? else {
             count(&mut self.passed.too_many);
             return Ok(());
         };
         if let Some(stream) = self.streams.get_mut(place) {
             stream.arrive(taken.time, taken.header.timestamp);
+            stream.first_bytes.note(taken.ports, payload);
             stream.push(taken.seq_no, taken.header, payload);
         }
         Ok(())
@@ -219,118 +244,15 @@ impl Recorder {
         }
     }
 
-    /// Takes a packet of retransmissions as what it wraps (RFC 4588 4).
-    fn take_repair(
-        &mut self,
-        row: Row,
-        header: &RtpHeader,
-        arrival: &Arrival<'_>,
-    ) -> Result<(), AllocError> {
-        let behind = arrival.bytes.get(header.header_len..).unwrap_or(&[]);
-        let payload = unpad_payload(header.has_padding, behind).unwrap_or(&[]);
-        let Some((low, payload)) = wrapped_in(payload) else {
-            count(&mut self.passed.empty_repairs);
-            return Ok(());
-        };
-        let repaired = row.repairs.and_then(|pt| self.rows.row(pt, arrival.port()));
-        let Some(row) = repaired else {
-            count(&mut self.passed.strange_repairs);
-            return Ok(());
-        };
-        let port = row.ports.and_then(|_| arrival.port());
-        let Some(place) = self.repaired_place(header.ssrc, port, row.pt, low) else {
-            count(&mut self.passed.strange_repairs);
-            return Ok(());
-        };
-        let Some(source) = self.sources.get_mut(place) else {
-            return Ok(());
-        };
-        let Some(seq_no) = source.receive_repaired(low) else {
-            return Ok(());
-        };
-        let taken = Taken {
-            header,
-            seq_no,
-            port,
-            time: None,
-        };
-        self.take_payload(place, row, &taken, payload)
-    }
-
-    /// Where the source is that these are the repairs of: the one that a text groups them with, else the only one
-    /// with this type, else the only one of these that misses the number.
-    fn repaired_place(&self, ssrc: Ssrc, port: Option<u16>, pt: u8, low: u16) -> Option<usize> {
-        let grouped = self.rows.repaired_by(ssrc.get());
-        let mut with_type = Found::None;
-        let mut missing = Found::None;
-        for (place, source) in self.sources.iter().enumerate() {
-            if source.port != port {
-                continue;
-            }
-            if grouped == Some(source.ssrc.get()) {
-                return Some(place);
-            }
-            if grouped.is_none() && self.has_stream(source.ssrc, port, pt) {
-                with_type = with_type.and(place);
-                if source.misses(low) {
-                    missing = missing.and(place);
-                }
-            }
-        }
-        with_type.only().or(missing.only())
-    }
-
-    /// Whether a source has a stream of this type.
-    fn has_stream(&self, ssrc: Ssrc, port: Option<u16>, pt: u8) -> bool {
-        self.streams.iter().any(|stream| stream.ssrc == ssrc
-            && stream.port == port
-            && stream.row.pt == pt)
-    }
-
-    /// Where the source of an SSRC is, which is made if there is none; None if there are too many.
-    fn source_place(&mut self, ssrc: Ssrc, port: Option<u16>) -> Result<Option<usize>, AllocError> {
-        for (place, source) in self.sources.iter().enumerate() {
-            if source.ssrc == ssrc && source.port == port {
-                return Ok(Some(place));
-            }
-        }
-        let place = self.sources.len();
-        if place >= self.limits.most_streams {
-            return Ok(None);
-        }
-        self.sources.push(Source::new(ssrc, port))?;
-        Ok(Some(place))
-    }
-
-    /// Where the stream of a source and a row is, which is made if there is none; None if there are too many, or its
-    /// codec has no payload format.
-    fn stream_place(
-        &mut self,
-        ssrc: Ssrc,
-        port: Option<u16>,
-        row: Row,
-    ) -> Result<Option<usize>, AllocError> {
-        for (place, stream) in self.streams.iter().enumerate() {
-            if stream.ssrc == ssrc && stream.port == port && stream.row.pt == row.pt {
-                return Ok(Some(place));
-            }
-        }
-        let place = self.streams.len();
-        if place >= self.limits.most_streams {
-            return Ok(None);
-        }
-        let (hold_back, held) = (self.limits.hold_back, self.limits.held);
-        let Some(stream) = Stream::new(self.alloc, ssrc, port, row, hold_back, held) else {
-            return Ok(None);
-        };
-        self.streams.push(stream)?;
-        Ok(Some(place))
-    }
-
-    /// Hands out what is left, if nothing more will come.
+    /// Hands out what is left, if nothing more will come, and tells which streams are encrypted.
     pub(crate) fn finish(&mut self) {
+        let is_secure = self.rows.is_secure;
         for stream in &mut self.streams {
             stream.drain();
+            let codec = stream.row.codec;
+            stream.is_encrypted = stream
+                .first_bytes
+                .are_encrypted(codec, is_secure, &self.secured);
         }
     }
 }

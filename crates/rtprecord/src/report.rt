@@ -4,6 +4,7 @@ use crate::arguments::Arguments;
 use crate::files::{ending_of, file_of};
 use crate::gaps::Silence;
 use crate::matroska::recording_of;
+use crate::passed::PassedFragments;
 use crate::recorder::Recorder;
 use crate::seen::Seen;
 use crate::source::Source;
@@ -103,6 +104,10 @@ fn print_stream(
     if stream.is_cut {
         println!(*rt; "    memory ran out, and later units are left out")?;
     }
+    if stream.is_encrypted {
+        println!(*rt; "    no file: its payloads are encrypted")?;
+        return Ok(!stream.is_cut);
+    }
     if arguments.is_list || stream.units.is_empty() {
         return Ok(!stream.is_cut);
     }
@@ -124,7 +129,7 @@ fn print_mkv(rt: &HostRuntime, recorder: &Recorder, arguments: &Arguments) -> an
     let Some(name) = &arguments.mkv else {
         return Ok(true);
     };
-    if arguments.is_list || recorder.streams.is_empty() {
+    if arguments.is_list || recorder.streams.iter().all(|stream| stream.is_encrypted) {
         return Ok(true);
     }
     match write_mkv(rt, recorder, name, arguments.is_forced) {
@@ -168,17 +173,32 @@ fn print_seen(rt: &HostRuntime, seen: &[Seen]) -> io::Result<()> {
     Ok(())
 }
 
+/// Prints which fragments no datagram came of.
+fn print_fragments(rt: &HostRuntime, fragments: PassedFragments) -> io::Result<()> {
+    println!(*rt;
+        "fragments passed over: {} without others, {} repeated, {} overlapping, {} cut or inside a tunnel",
+        fragments.alone, fragments.repeated, fragments.overlapping, fragments.unreadable
+    )
+}
+
 /// Prints what was passed over.
 fn print_passed(rt: &HostRuntime, recorder: &Recorder) -> io::Result<()> {
     let p = recorder.passed;
+    let fragments = p.fragments.all();
     println!(*rt;
-        "packets passed over: {} without UDP, {} fragments, {} cut, {} malformed",
-        p.not_udp, p.fragments, p.cut, p.malformed
+        "packets passed over: {} without UDP, {fragments} fragments, {} cut, {} malformed",
+        p.not_udp, p.cut, p.malformed
     )?;
+    if fragments > 0 {
+        print_fragments(rt, p.fragments)?;
+    }
     println!(*rt;
         "datagrams passed over: {} STUN, {} DTLS, {} RTCP, {} of types without a row, {} others",
         p.stun, p.dtls, p.rtcp, p.unknown, p.other
     )?;
+    if p.relayed > 0 {
+        println!(*rt; "datagrams that TURN relays: {}", p.relayed)?;
+    }
     if p.elsewhere > 0 {
         println!(*rt; "datagrams of other ports: {}", p.elsewhere)?;
     }
@@ -214,16 +234,21 @@ fn is_unreadable(recorder: &Recorder) -> bool {
     all > 0 && bad.saturating_mul(10) >= all.saturating_mul(9)
 }
 
-/// Says why nearly nothing may be read.
+/// Says which streams are encrypted, or that nearly nothing can be read.
 fn tell_unreadable(rt: &HostRuntime, recorder: &Recorder) -> io::Result<()> {
-    if recorder.rows.is_secure {
+    let is_encrypted = |stream: &&Stream| stream.is_encrypted;
+    let encrypted = recorder.streams.iter().filter(is_encrypted).count();
+    if encrypted > 0 {
         return eprintln!(*rt;
-            "nearly nothing can be read, and a text says that it is encrypted: the capture looks so"
+            "rtprecord: encrypted streams, of which no file is written: {encrypted}"
         );
     }
-    eprintln!(*rt;
-        "nearly nothing can be read: the capture may be encrypted, or of other codecs than said"
-    )
+    if is_unreadable(recorder) {
+        return eprintln!(*rt;
+            "rtprecord: nearly nothing can be read: it may be encrypted, or of other codecs than said"
+        );
+    }
+    Ok(())
 }
 
 /// Prints each source and its streams, and writes the streams' files; returns whether all are as they should be.
@@ -254,8 +279,6 @@ pub(crate) fn print(
             silence.shortened
         )?;
     }
-    if is_unreadable(recorder) {
-        tell_unreadable(rt, recorder)?;
-    }
+    tell_unreadable(rt, recorder)?;
     Ok(is_whole)
 }

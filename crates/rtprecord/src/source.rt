@@ -12,6 +12,8 @@ pub(crate) struct Source {
     window: Option<SeqNoWindow>,
     lowest: u64,
     greatest: u64,
+    /// The payload types that its packets have had.
+    types: [bool; 128],
     /// Packets that were taken.
     pub(crate) taken: u64,
     /// Those of them that came as repairs.
@@ -33,12 +35,25 @@ impl Source {
             window: None,
             lowest: u64::MAX,
             greatest: 0,
+            types: [false; 128],
             taken: 0,
             repaired: 0,
             late: 0,
             damaged: 0,
             padding: 0,
         }
+    }
+
+    /// Notes a payload type of its packets.
+    pub(crate) fn note_type(&mut self, pt: u8) {
+        if pt < 128 {
+            self.types[pt as usize] = true;
+        }
+    }
+
+    /// Whether its packets have had a payload type.
+    pub(crate) fn has_type(&self, pt: u8) -> bool {
+        pt < 128 && self.types[pt as usize]
     }
 
     /// Notes a number that is taken.

@@ -2,6 +2,7 @@
 
 use crate::layers::Layers;
 use crate::row::Row;
+use crate::secrecy::FirstBytes;
 use h26x_payload::{
     Codec, CodecDepacketizer, CodecExtra, Depacketized, DepacketizingBuffer, NotBoxed, PacketError,
     RtpMeta, SeqNo, may_hold,
@@ -38,6 +39,9 @@ pub(crate) struct Stream {
     pub(crate) began: Option<(u64, u32)>,
     /// When its last packet came, in microseconds.
     pub(crate) ended: Option<u64>,
+    pub(crate) first_bytes: FirstBytes,
+    /// Whether its payloads are encrypted, and it isn't written.
+    pub(crate) is_encrypted: bool,
     layers: Layers,
     buffer: DepacketizingBuffer<CodecDepacketizer<NotBoxed>>,
 }
@@ -80,6 +84,8 @@ impl Stream {
             is_cut: false,
             began: None,
             ended: None,
+            first_bytes: FirstBytes::new(),
+            is_encrypted: false,
             layers: Layers::new(alloc),
             buffer: DepacketizingBuffer::new(alloc, depacketizer, hold_back, held),
         })

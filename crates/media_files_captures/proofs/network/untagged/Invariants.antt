@@ -1,6 +1,6 @@
 use Rattle.std.proofs.Common.{◌≡◌, length}
-use Rattle.media_files_captures.specs.Frames.{untagged}
-use Rattle.media_files_captures.proofs.frames.untagged.Given as goal
+use Rattle.media_files_captures.specs.Network.{untagged}
+use Rattle.media_files_captures.proofs.network.untagged.Given as goal
 
 -- what is left has what the whole has behind its tags
 abbrev pub invariant-loop-kind : goal.invariant-loop-kind

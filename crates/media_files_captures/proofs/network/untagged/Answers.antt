@@ -1,7 +1,7 @@
 use Rattle.std.proofs.Common.{arith, sym, ◌∙◌}
 use Rattle.media_files_captures.proofs.FrameLemmas.{untagged-tag, untagged-end, untagged-short}
-use Rattle.media_files_captures.proofs.frames.untagged.Goals as goal
-use Rattle.media_files_captures.proofs.frames.untagged.Goals.{then-loop-kind-test+else-rest-ge4, else-loop-kind-test}
+use Rattle.media_files_captures.proofs.network.untagged.Goals as goal
+use Rattle.media_files_captures.proofs.network.untagged.Goals.{then-loop-kind-test+else-rest-ge4, else-loop-kind-test}
 
 pub loop-kind-preserved : goal.loop-kind-preserved
 loop-kind-preserved c =

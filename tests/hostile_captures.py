@@ -1,0 +1,246 @@
+#!/usr/bin/env python3
+"""Hostile captures at the built `rtprecord`: each has at most 3 MB, and between its packets ten of a stream of Opus.
+Each run ends by itself within 5 s and 200 MB, and the file of that stream is what the model makes of its packets.
+Captures of encrypted media are told as such. Run it behind `rt ci`.
+"""
+
+import os
+import random
+import resource
+import struct
+import subprocess
+import tempfile
+import time
+from pathlib import Path
+
+import built
+from built import Counts
+
+import files
+import tunnels
+from tunnels import ethernet, gre, ipv4, ipv6, udp
+
+PROGRAM = "rtprecord"
+SECONDS, BYTES, MOST = 5, 200_000_000, 3_000_000
+ROWS = ["--pt", "111=opus/48000/2", "--pt", "96=VP8/90000", "--pt", "102=H264/90000", "--pt", "98=VP9/90000",
+        "--pt", "45=AV1/90000", "--rtx", "97=96"]
+OWN = 0x5AFE5AFE
+
+
+def packet(number, ssrc=OWN, pt=111, time=None, payload=None):
+    payload = b"\x68" + bytes([number % 256] * 20) if payload is None else payload
+    return files.rtp(ssrc, pt, number, 960 * number if time is None else time, 0, payload)
+
+
+OWN_FILE = files.opus_file(OWN, 2, [packet(number)[12:] for number in range(10)], [960] * 10)
+
+
+def plain(datagram):
+    return ethernet(0x0800, ipv4(udp(datagram)))
+
+
+def pcap(frames):
+    """A file of as many frames as there is room for, with the packets of the stream spread among them."""
+    kept, size = [], 24
+    for frame in frames:
+        size += 16 + len(frame)
+        if size > MOST - 10 * 120:
+            break
+        kept.append(frame)
+    for number in range(10):
+        kept.insert((len(kept) + 1) * number // 10, plain(packet(number)))
+    out = struct.pack("<IHHIIII", 0xA1B2C3D4, 2, 4, 0, 0, 65535, 1)
+    return out + b"".join(struct.pack("<IIII", n // 100, n % 100, len(f), len(f)) + f for n, f in enumerate(kept))
+
+
+def many(frame):
+    return (frame(number) for number in range(1_000_000))
+
+
+def drawn(name):
+    return random.Random(f"hostile {name}")
+
+
+def sources(number):
+    return plain(packet(number, 1 + number))
+
+
+def sources_of_two(number):
+    return plain(packet(number, 1 + number // 2))
+
+
+def unknown_types(number):
+    return plain(packet(number, 1 + number, 30 + number % 30))
+
+
+def gaps(number):
+    return plain(packet(3 * number, 77, 111, 0x7FFFFFFF * number % 2**32))
+
+
+def quiet_gaps(number):
+    return plain(packet(number, 78, 0, 0x7FFFFFFF * number % 2**32, b"\xff"))
+
+
+def jumps(number):
+    return plain(packet(number * 30000, 79, 96, number, b"\x10\0\0\0"))
+
+
+def pictures_in_pieces(number):
+    return plain(packet(number, 80, 102, 3000, b"\x7c\x05\0"))
+
+
+def repairs_of_none(number):
+    return plain(packet(number, 1 + number % 255, 96 + number // 300 % 2, 0, b"\x10\0\0\0\0"))
+
+
+def fragments_of_one(number):
+    return ethernet(0x0800, ipv4(b"\x80" * 8, 17, 9, 8 * (number % 8000), True))
+
+
+def fragments_of_many(number):
+    return ethernet(0x0800, ipv4(b"\x80" * 8, 17, number % 65536, 8 * (number % 63), number % 2 == 0))
+
+
+def fragments_across(number):
+    return ethernet(0x0800, ipv4(b"\x80" * 16, 17, number % 32, 8 * (number % 3), True))
+
+
+def fragments_of_ipv6(number):
+    return ethernet(0x86DD, tunnels.ipv6_fragment(b"\x80" * 8, number % 60, 8 * (number // 60 % 8000), number % 7 > 0))
+
+
+def deep_tunnels(number):
+    inner = ipv4(udp(packet(number)))
+    for _ in range(number % 60):
+        inner = ipv4(gre(0x0800, inner), 47)
+    return ethernet(0x0800, inner)
+
+
+def many_tags(number):
+    return ethernet(0x8100, b"\0\1\x81\0" * 300)
+
+
+def many_headers(number):
+    return ethernet(0x86DD, ipv6(b"\x3c\0\0\0\0\0\0\0" * 150, 60))
+
+
+def sealed_ports(number):
+    return ethernet(0x0800, ipv4(udp(b"\x16\xfe\xfd" + b"\0" * 20, number % 65536, number * 7 % 65536)))
+
+
+def reports(number):
+    return plain(struct.pack(">BBHIQIII", 0x80, 200, 6, number, number, 0, 0, 0))
+
+
+def attributes(number):
+    return plain(struct.pack(">HHI", 0x17, 1200, 0x2112A442) + b"transaction!" + b"\0\1\0\0" * 300)
+
+
+def layers(number):
+    return plain(packet(number, 81, 98, 0, b"\xa8\x81" + b"\0" * 8))
+
+
+def shapes(draw):
+    """Bytes that begin as the packets of each layer do."""
+    fronts = [b"", ethernet(0x0800, ipv4(b""))[:34], ethernet(0x8864, b"\x11\0"), ethernet(0x86DD, ipv6(b""))[:54],
+              plain(packet(1))[:42], plain(packet(1, 82, 96))[:54], plain(packet(1, 83, 45))[:54],
+              plain(b"\x40\1\0\x20"), ethernet(0x0800, ipv4(gre(0x0800, b""), 47))[:38]]
+    while True:
+        yield draw.choice(fronts) + draw.randbytes(draw.randrange(60))
+
+
+FLOODS = [sources, sources_of_two, unknown_types, gaps, quiet_gaps, jumps, pictures_in_pieces, repairs_of_none,
+          fragments_of_one, fragments_of_many, fragments_across, fragments_of_ipv6, deep_tunnels, many_tags,
+          many_headers, sealed_ports, reports, attributes, layers]
+
+
+def interfaces():
+    """A pcapng file of interfaces with many options, and then the stream's packets of the last."""
+    out = files.block(0x0A0D0D0A, struct.pack("<IHHq", 0x1A2B3C4D, 1, 0, -1))
+    one = files.block(1, struct.pack("<HHI", 1, 0, 0) + b"\1\0\0\0" * 60)
+    count = (MOST - 3000) // len(one)
+    out += one * count
+    for number in range(10):
+        frame = plain(packet(number))
+        out += files.block(6, struct.pack("<IIIII", count - 1, 0, number, len(frame), len(frame)) + frame)
+    return out
+
+
+def ran(program, capture, arguments):
+    """The run's status, what it says, its seconds and its greatest memory; and the file of the stream."""
+    with tempfile.TemporaryDirectory() as folder:
+        Path(folder, "capture").write_bytes(capture)
+
+        def limit_it():
+            resource.setrlimit(resource.RLIMIT_CORE, (0, 0))
+            resource.setrlimit(resource.RLIMIT_CPU, (60, 60))
+        begin = time.monotonic()
+        child = subprocess.Popen([program, "capture", "--out", "found", *arguments], cwd=folder,
+                                 stdout=open(f"{folder}/said", "wb"), stderr=subprocess.STDOUT, preexec_fn=limit_it)
+        _, status, used = os.wait4(child.pid, 0)
+        child.returncode = os.waitstatus_to_exitcode(status)
+        seconds, found = time.monotonic() - begin, Path(folder, "found", f"{OWN:08x}-111.opus")
+        said = Path(folder, "said").read_text(errors="replace")
+        return child.returncode, said, seconds, 1024 * used.ru_maxrss, found.read_bytes() if found.exists() else b""
+
+
+def tried(counts, name, program, capture):
+    """A hostile capture: bounded, and the stream is whole. Bytes by chance may look like another stream, encrypted."""
+    counts.check(f"{name} has at most 3 MB", len(capture) <= MOST, str(len(capture)))
+    status, said, seconds, memory, found = ran(program, capture, [*ROWS, "--mkv", "all.mkv"])
+    wanted = (0, 3) if name.startswith("shapes") else (0,)
+    counts.check(f"{name} ends with 0", status in wanted, f"{status}: {said[-300:]}")
+    counts.check(f"{name} ends within {SECONDS} s", seconds <= SECONDS, f"{seconds:.1f} s")
+    counts.check(f"{name} takes at most 200 MB", memory <= BYTES, f"{memory / 1e6:.0f} MB")
+    counts.check(f"{name} loses nothing of the stream", found == OWN_FILE, f"{len(found)} bytes")
+
+
+FINGERPRINT = "a=fingerprint:sha-256 " + ":".join(["AB"] * 32)
+TEXT = ["v=0", "o=- 0 0 IN IP4 0.0.0.0", "s=-", "t=0 0", FINGERPRINT, "m=video 9 UDP/TLS/RTP/SAVPF 96",
+        "c=IN IP4 0.0.0.0", "a=mid:0", "a=sendrecv", "a=rtpmap:96 VP8/90000", ""]
+
+
+def of_video(payload):
+    """Forty packets of a stream of VP8."""
+    return [plain(packet(number, 90, 96, 3000 * number, payload(number))) for number in range(40)]
+
+
+def encrypted(counts, build, program):
+    """Payloads that say nothing are told as encrypted beside DTLS or a fingerprint, and without these are not; what
+    says something never is."""
+    draw = drawn("encrypted")
+    noise = of_video(lambda number: draw.randbytes(90))
+    clear = of_video(lambda number: b"\x10\x10\2\0\x9d\1\x2a\x10\0\x08\0" + draw.randbytes(80))
+    dtls = [ethernet(0x0800, ipv4(udp(b"\x16\xfe\xfd" + b"\0" * 30)))]
+    with tempfile.NamedTemporaryFile("w", suffix=".sdp") as text:
+        text.write("\r\n".join(TEXT))
+        text.flush()
+        row, said = ["--pt", "96=VP8/90000"], ["--sdp", text.name]
+        for name, frames, arguments, wanted in [
+                ("noise beside DTLS", dtls + noise, row, 3), ("noise with a fingerprint", noise, said, 3),
+                ("noise alone", noise, row, 0), ("pictures beside DTLS", dtls + clear, row, 0),
+                ("pictures with a fingerprint", clear, said, 0)]:
+            status, told, *_ = ran(program, pcap_of(frames), arguments)
+            counts.same(f"{name}, {build}", (wanted, wanted == 3), (status, "encrypted" in told.split("nearly")[0]))
+
+
+def pcap_of(frames):
+    out = struct.pack("<IHHIIII", 0xA1B2C3D4, 2, 4, 0, 0, 65535, 1)
+    return out + b"".join(struct.pack("<IIII", n, 0, len(f), len(f)) + f for n, f in enumerate(frames))
+
+
+def main():
+    counts = Counts()
+    captures = [(flood.__name__.replace("_", " "), pcap(many(flood))) for flood in FLOODS]
+    captures += [(f"shapes {seed}", pcap(shapes(drawn(seed)))) for seed in range(3)] + [("interfaces", interfaces())]
+    for build, program in built.built(counts, PROGRAM):
+        for name, capture in captures:
+            tried(counts, f"{name}, {build}", program, capture)
+        encrypted(counts, build, program)
+        status, said, *_ = ran(program, b"\x1f\x8b\x08" + b"\0" * 30, ROWS)
+        counts.check(f"gzip is refused by name, {build}", status == 1 and "gzip" in said, f"{status}: {said}")
+    counts.end()
+
+
+if __name__ == "__main__":
+    main()
