@@ -637,7 +637,7 @@ static void of_numbers(jilqamur_end *end)
     default:
         if (!below(20))
             CALL(end_close_sender, end, stream);
-        if (!below(20))
+        if (!below(4))
             CALL(end_close_receiver, end, stream);
     }
 }
