@@ -1,7 +1,7 @@
 #!/usr/bin/env python3
 """Hostile captures at the built `rtprecord`: each has at most 3 MB, and between its packets ten of a stream of Opus.
-Each run ends by itself within 5 s and 200 MB, and the file of that stream is what the model makes of its packets.
-Captures of encrypted media are told as such. Run it behind `rt ci`.
+Each run ends by itself within 5 s of a processor and 200 MB, and the file of that stream is what the model makes of its
+packets. Captures of encrypted media are told as such. Run it behind `rt ci`.
 """
 
 import os
@@ -10,7 +10,6 @@ import resource
 import struct
 import subprocess
 import tempfile
-import time
 from pathlib import Path
 
 import built
@@ -110,7 +109,7 @@ def fragments_of_ipv6(number):
 
 
 def deep_tunnels(number):
-    inner = ipv4(udp(packet(number)))
+    inner = ipv4(udp(packet(number, 84)))
     for _ in range(number % 60):
         inner = ipv4(gre(0x0800, inner), 47)
     return ethernet(0x0800, inner)
@@ -167,19 +166,18 @@ def interfaces():
 
 
 def ran(program, capture, arguments):
-    """The run's status, what it says, its seconds and its greatest memory; and the file of the stream."""
+    """The run's status, what it says, its seconds of a processor and its greatest memory; and the stream's file."""
     with tempfile.TemporaryDirectory() as folder:
         Path(folder, "capture").write_bytes(capture)
 
         def limit_it():
             resource.setrlimit(resource.RLIMIT_CORE, (0, 0))
             resource.setrlimit(resource.RLIMIT_CPU, (60, 60))
-        begin = time.monotonic()
         child = subprocess.Popen([program, "capture", "--out", "found", *arguments], cwd=folder,
                                  stdout=open(f"{folder}/said", "wb"), stderr=subprocess.STDOUT, preexec_fn=limit_it)
         _, status, used = os.wait4(child.pid, 0)
         child.returncode = os.waitstatus_to_exitcode(status)
-        seconds, found = time.monotonic() - begin, Path(folder, "found", f"{OWN:08x}-111.opus")
+        seconds, found = used.ru_utime + used.ru_stime, Path(folder, "found", f"{OWN:08x}-111.opus")
         said = Path(folder, "said").read_text(errors="replace")
         return child.returncode, said, seconds, 1024 * used.ru_maxrss, found.read_bytes() if found.exists() else b""
 
