@@ -35,7 +35,7 @@ CountsCopied old number before new after =
     (new.to ≡ slice_set (replicate 32 255 ++ drop 32 old.to) 2 (number % 256))
     × (after ≡ tally_with before 1 (number % 256 / 255))
 
--- The number offered is this one, or one less where it is 2 modulo 3. If the window accepts it, it is recorded and
+-- The number offered is this one, or one less if it is 2 modulo 3. If the window accepts it, it is recorded and
 -- counted; otherwise nothing changes.
 abbrev pub CountsAccepted : Updating → ℕ → Tally → Updating → Tally → Type 0
 CountsAccepted old number before new after =

@@ -45,7 +45,7 @@ JoinsFirst packets zero text = text ≡ []
 JoinsFirst packets (suc n) text = (front : List ℕ) × JoinsFirst packets n front
     × ((text ≡ front ++ slice_index_or packets n []) ⊎ (text ≡ front))
 
--- The packets are counted, and the bytes that are handed out: what is in the fragment, or none where memory runs out.
+-- The packets are counted, and the bytes that are handed out: what is in the fragment, or none if memory runs out.
 pub record CountsCopied (old : Copying) (number : ℕ) (before : Tally) (new : Copying) (after : Tally) : Type 0 where
   pub joined : JoinsFirst (map (λ p. p.items) old.packets.now) (length old.packets.now) new.fragment.items
   pub copied : (new.out.items ≡ new.fragment.items) ⊎ (new.out.items ≡ [])

@@ -3,7 +3,7 @@ use Rattle.std.specs.Prelude.{◌≡◌, ℕ, zero, suc, ◌⊎◌}
 use Rattle.benchmarks.specs.declared.tally.Tally.{Tally}
 use Rattle.benchmarks.specs.Tallies.{empty_tally}
 
--- n rounds lead from one state and tally to another. Zero rounds change nothing; round n starts where the n before it
+-- n rounds lead from one state and tally to another. Zero rounds change nothing; round n starts if the n before it
 -- ended.
 abbrev pub Repeats : {S : Type 0} → (S → ℕ → Tally → S → Tally → Type 0) → ℕ → S → Tally → S → Tally → Type 0
 Repeats counts zero old before new after = (new ≡ old) × (after ≡ before)

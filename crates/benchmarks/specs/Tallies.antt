@@ -6,7 +6,7 @@ use Rattle.benchmarks.specs.declared.tally.Tally.{Tally}
 abbrev pub empty_tally : Tally
 empty_tally = record { packets = 0; bytes = 0 }
 
--- The tally plus so many payloads with so many bytes in all; both counters wrap at 64 bits.
+-- The tally plus this many payloads with this many bytes in all; both counters wrap at 64 bits.
 abbrev pub tally_with : Tally → ℕ → ℕ → Tally
 tally_with tally packets bytes = record {
   packets = (tally.packets + packets) % 2 ^ 64;

@@ -6,10 +6,10 @@ use sdp_formats::{RtpParams, sdp_parser};
 use std::alloc::Global;
 use std::io;
 
-/// What stands before the types of the one section, of which this is the first.
+/// What is before the types of the one section, of which this is the first.
 const HEAD: &str = "v=0\r\no=- 1 2 IN IP4 0.0.0.0\r\ns=-\r\nt=0 0\r\nm=audio 9 UDP/TLS/RTP/SAVPF 0";
 
-/// What stands between its types and its other lines.
+/// What is between its types and its other lines.
 const SECTION: &str = "\r\nc=IN IP4 0.0.0.0\r\na=mid:0\r\na=sendrecv\r\n";
 
 /// A session text that is read with the rows of its sections.

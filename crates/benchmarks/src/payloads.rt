@@ -55,7 +55,7 @@ fn video(rt: &HostRuntime) -> io::Result<()> {
     measure_codec(rt, "VP9", Codec::Vp9, false, &frame, VIDEO)
 }
 
-/// AV1: a temporal unit of one frame of so many bytes, behind its header and its size in leb128.
+/// AV1: a temporal unit of one frame of this many bytes, after its header and its size in leb128.
 fn av1(rt: &HostRuntime, format: &str, header: &[u8], size: usize, rounds: u32) -> io::Result<()> {
     let frame = vec![in rt.alloc(); 7; size]?;
     let unit = [header, &frame].concat(rt.alloc())?;

@@ -2,7 +2,7 @@
 
 use std::alloc::{AllocError, Global};
 
-/// The bytes of a slice behind its start.
+/// The bytes of a slice after its start.
 const SLICE: [u8; 3_000] = [7; 3_000];
 
 /// An access unit of parameter sets and four slices with this start, some 12,000 bytes.

@@ -21,7 +21,7 @@ impl Tally {
         }
     }
 
-    /// Counts so many payloads, which have so many bytes together.
+    /// Counts this many payloads, which have this many bytes together.
     pub(crate) fn add(&mut self, packets: usize, bytes: usize)
         ensures { self.new ≡ tally_with self.old packets bytes }
     {

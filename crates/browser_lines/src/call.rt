@@ -143,7 +143,7 @@ impl Call {
         Ok(for_browser(self.alloc, &mut self.plan, text, &transport)?)
     }
 
-    /// Takes the browser's answer to the end's offer. Where the end refuses it, the plan is as before.
+    /// Takes the browser's answer to the end's offer. If the end refuses it, the plan is as before.
     pub(crate) fn accept(&mut self, answer: &str) -> Result<String, CallError> {
         let before = self.plan.clone(self.alloc)?;
         let text = answer_for_end(self.alloc, &mut self.plan, answer)?;

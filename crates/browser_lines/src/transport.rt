@@ -16,7 +16,7 @@ fn text(alloc: Global, text: &str) -> Result<Text, AllocError> {
     Ok(Text::of(String::from_str(alloc, text)?))
 }
 
-/// What is known beforehand of the end's transport, and its part in the connection where it answers.
+/// What is known beforehand of the end's transport, and its part in the connection if it answers.
 #[derive(Drop)]
 pub(crate) struct Own {
     ufrag: String,

@@ -52,7 +52,7 @@ pub(crate) fn wishes(alloc: Global, words: &str) -> Result<Vec<Wish>, AllocError
     Ok(wishes)
 }
 
-/// A wish for `audio`, `video` or a mid, and `=` and the wish behind it.
+/// A wish for `audio`, `video` or a mid, and `=` and the wish after it.
 fn named_wish(alloc: Global, word: &str) -> Result<NamedWish, AllocError> {
     let (target, rest) = word.split_once('=').unwrap_or((word, ""));
     Ok(NamedWish {

@@ -29,7 +29,7 @@ impl Capture {
         self.pt == pt || self.red == Some(pt)
     }
 
-    /// A depacketizer of the codec, with telephone events at 48 kHz; None where the codec has no payload format.
+    /// A depacketizer of the codec, with telephone events at 48 kHz; None if the codec has no payload format.
     pub(crate) fn depacketizer(&self, alloc: Global) -> Option<CodecDepacketizer<NotBoxed>> {
         let mut depacketizer = CodecDepacketizer::<NotBoxed>::new(alloc, self.codec)?;
         depacketizer.configure_for(None, None, Frequency::FORTY_EIGHT_KHZ);

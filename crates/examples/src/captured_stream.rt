@@ -118,7 +118,7 @@ impl Counts {
 }
 
 impl Stream {
-    /// A stream that received nothing; None where the codec has no payload format.
+    /// A stream that received nothing; None if the codec has no payload format.
     pub(crate) fn new(alloc: Global, capture: &Capture, ssrc: Ssrc) -> Option<Stream> {
         Some(Stream {
             ssrc,
@@ -168,7 +168,7 @@ impl Stream {
         Ok(())
     }
 
-    /// Hands out all that is complete, where nothing more will come.
+    /// Hands out all that is complete, if nothing more will come.
     pub(crate) fn drain(&mut self) -> Result<(), PacketError> {
         let units = self.counts.units;
         for _ in 0..u32::MAX {

@@ -101,7 +101,7 @@ fn print_line(rt: &HostRuntime, line: &str) -> anyhow::Result<()> {
     }
 }
 
-/// Prints some rows as JSON and reads them back; then reads the rows whose JSON stands on lines, and prints each as
+/// Prints some rows as JSON and reads them back; then reads the rows whose JSON is on lines, and prints each as
 /// JSON again, or why it is none.
 pub(crate) fn print_rows(rt: &HostRuntime, lines: &str) -> anyhow::Result<()> {
     let h264 = "level-asymmetry-allowed=1;packetization-mode=1;profile-level-id=42e01f";

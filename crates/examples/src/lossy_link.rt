@@ -45,7 +45,7 @@ fn arrive(
     Ok(frames)
 }
 
-/// A line for each frame, with this behind it.
+/// A line for each frame, with this after it.
 fn print(rt: &HostRuntime, frames: &[Depacketized], behind: &str) -> io::Result<()> {
     for frame in frames {
         let (time, len) = (frame.time(), frame.bytes.len());

@@ -1,6 +1,6 @@
 //! Code to copy, a module for each piece, whose first lines name the crates that it uses. Standard input has parts with
-//! an empty line between, each behind a line `== NAME`; no line of a part begins so. What comes of a part is printed
-//! behind the same line.
+//! an empty line between, each after a line `== NAME`; no line of a part begins so. What comes of a part is printed
+//! after the same line.
 //!
 //! - `recorder`: datagrams in hexadecimal, a line each, of which those of SSRC 44 and payload type 96 are VP8, into
 //!   frames (`recorder`, `recording`)
@@ -34,7 +34,7 @@ fn main(rt: HostRuntime) -> anyhow::Result<()> {
     Ok(())
 }
 
-/// Runs the example whose name is the first line, on the lines behind it.
+/// Runs the example whose name is the first line, on the lines after it.
 fn run(rt: &HostRuntime, part: &str) -> anyhow::Result<()> {
     let (name, lines) = part.split_once('\n').unwrap_or((part, ""));
     println!(*rt; "== {name}")?;

@@ -31,7 +31,7 @@ impl Recorder {
         }
     }
 
-    /// Takes a datagram in. False where it is no RTP, of another stream, without a payload, came before, or comes too
+    /// Takes a datagram in. False if it is no RTP, of another stream, without a payload, came before, or comes too
     /// late.
     ///
     /// # Errors
@@ -65,7 +65,7 @@ impl Recorder {
     /// The frames that are due.
     ///
     /// # Errors
-    /// Where a packet of a frame is refused, which is done with then, or memory runs out.
+    /// If a packet of a frame is refused, which is done with then, or memory runs out.
     pub(crate) fn frames(&mut self, alloc: Global) -> Result<Vec<Depacketized>, PacketError> {
         let mut frames = Vec::new(alloc);
         self.buffer.pop_all(&mut frames)?;

@@ -1,4 +1,4 @@
-//! The frames of a stream whose datagrams stand on lines. Uses the crates `anyhow`, `hex`, `payload_core` and
+//! The frames of a stream whose datagrams are on lines. Uses the crates `anyhow`, `hex`, `payload_core` and
 //! `rtp_wire`, and the module `recorder` beside it.
 
 use crate::recorder::Recorder;

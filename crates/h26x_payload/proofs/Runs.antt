@@ -11,7 +11,7 @@ use Rattle.payload_core_base.specs.declared.error.PacketError.{PacketError}
 use Rattle.payload_core_base.specs.declared.extra.CodecExtra.{CodecExtra}
 use Rattle.h26x_payload.specs.Dispatch.{ArePair, ComesThrough, GivesUnits, SendsAndGives, through}
 
--- where the first packets have no fault, the others are read behind them
+-- if the first packets have no fault, the others are read after them
 abbrev Continues : (Fragment → CodecExtra → Run) → Run → Run → Type 0
 Continues others first all = first.fault ≡ None → all ≡ run_behind first.written (others first.fragment first.extra)
 

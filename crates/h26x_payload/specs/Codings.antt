@@ -24,7 +24,7 @@ pub record Settings : Type 0 where
   pub clock_rate : ℕ
 
 -- What `octet-align`, `sprop-max-don-diff` and a clock rate say: a layout that isn't given is the bandwidth-efficient
--- one (RFC 4867 8.1), and there are decoding order numbers where the greatest difference is given and above 0 (RFC
+-- one (RFC 4867 8.1), and there are decoding order numbers if the greatest difference is given and above 0 (RFC
 -- 7798 7.1, RFC 9328 7.2).
 abbrev pub settings_of : Option Bool → Option ℕ → ℕ → Settings
 settings_of octet_align max_don_diff clock_rate =
@@ -93,7 +93,7 @@ coding_in f s has_id Av1 = av1_coding
 coding_in f s has_id Tele = telephone_coding s.clock_rate
 coding_in f s has_id _ = no_coding
 
--- The payload format of a codec where neither form was asked for.
+-- The payload format of a codec if neither form was asked for.
 abbrev pub coding_of : Settings → Bool → Codec → Coding
 coding_of s has_id codec = coding_in plain_forms s has_id codec
 

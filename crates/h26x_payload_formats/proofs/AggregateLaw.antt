@@ -15,7 +15,7 @@ use Rattle.h26x_payload_formats.specs.AggregateLayout.{AggregateLaw, EndsSo, IsL
 use Rattle.h26x_payload_formats.specs.StapA.{refusal_of, stap_a_fault}
 use Rattle.h26x_payload_formats.proofs.StapALemmas.{drop_first, is_laid_out}
 
--- how a fault is told, behind these units of a text
+-- how a fault is told, after these units of a text
 abbrev told_behind : List ℕ → List (List ℕ) → Option AggregateFault → Option PacketError
 told_behind text units fault = option_map (λ f. refusal_of f (drop (length (flat_map sized units)) text)) fault
 

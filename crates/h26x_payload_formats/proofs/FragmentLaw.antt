@@ -85,7 +85,7 @@ fault_of : Option PacketError → Bool
 fault_of None = false
 fault_of (Some e) = true
 
--- a packet, and the packets behind it
+-- a packet, and the packets after it
 abbrev rest_of : Layout → Bool → List (List ℕ) → Fragment → CodecExtra → Run
 rest_of l donl ps f extra = read_all (h265_h266_format l donl) f extra ps
 

@@ -65,7 +65,7 @@ fault_of : Option PacketError → Bool
 fault_of None = false
 fault_of (Some e) = true
 
--- a packet, and the packets behind it
+-- a packet, and the packets after it
 abbrev rest_of : List (List ℕ) → Fragment → CodecExtra → Run
 rest_of ps f extra = read_all h264_format f extra ps
 

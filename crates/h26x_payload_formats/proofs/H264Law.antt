@@ -52,7 +52,7 @@ stap_bundle sets some = (refl, tt, some_parts sets some, gives_all)
         let g = given-run None None extra (stap_a sets) (flat_map behind_code sets) qs (stap_given None sets) in
         (g.0, g.1 ∙ ap (λ t. run_behind t (read_all h264_format None g.0 qs)) (sym (joined_codes sets)))
 
--- a unit that stands alone
+-- a unit that is alone
 whole_bundle : (header : ℕ) (body : List ℕ) → IsSendable (header ∷ body)
     → IsBundle h264_format ((header ∷ body) ∷ []) (behind_code (header ∷ body) ∷ [])
 whole_bundle header body is = (ap (λ k. begins_by k body) kind, tt, omega arith, gives_all)

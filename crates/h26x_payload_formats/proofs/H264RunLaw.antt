@@ -103,7 +103,7 @@ fragments header first parts = in_fragments (fu_a header) first parts
 run_none : (run : Run) → run_behind [] run ≡ run
 run_none run = refl
 
--- what the later fragments of a unit give, behind the bytes that are open
+-- what the later fragments of a unit give, after the bytes that are open
 later_run : (header : ℕ) (unit p : List ℕ) (ps : List (List ℕ)) (extra : CodecExtra) (qs : List (List ℕ)) → header < 128
     → (x : CodecExtra) × (read_all h264_format (Some unit) extra (fragments header false (p ∷ ps) ++ qs)
     ≡ run_behind (unit ++ joined (p ∷ ps)) (read_all h264_format None x qs))

@@ -49,7 +49,7 @@ aggregate_bundle l donl n sets some = (aggregate_head l donl n sets, tt, some_pa
         (aggregate_given l donl n sets None) in
         (g.0, g.1 ∙ ap (λ t. run_behind t (read_all (h265_h266_format l donl) None g.0 qs)) (sym (joined_codes sets)))
 
--- a unit that stands alone
+-- a unit that is alone
 single_is : (donl : Bool) (n high low : ℕ) (body : List ℕ) → 0 < length body → single donl n (high ∷ low ∷ body)
     ≡ high ∷ low ∷ (donl_bytes donl n ++ body)
 single_is donl n high low body some =

@@ -172,7 +172,7 @@ type_is H266 true false type small = omega arith
 type_is H266 false true type small = omega arith
 type_is H266 false false type small = omega arith
 
--- the header of a unit that stands alone, with F clear
+-- the header of a unit that is alone, with F clear
 abbrev pub IsClear : Layout → ℕ → ℕ → Type 0
 IsClear l high low = (high < 128) × (type_of l high low ≤ last_alone l)
 
@@ -238,7 +238,7 @@ fragments l donl n high low first parts = in_fragments (fragment l donl n high l
 run_none : (run : Run) → run_behind [] run ≡ run
 run_none run = refl
 
--- what the later fragments of a unit give, behind the bytes that are open
+-- what the later fragments of a unit give, after the bytes that are open
 later_run : (l : Layout) (donl : Bool) (n high low : ℕ) (unit p : List ℕ) (ps : List (List ℕ)) (extra : CodecExtra)
     (qs : List (List ℕ)) → IsClear l high low
     → (x : CodecExtra) × (read_all (h265_h266_format l donl) (Some unit) extra

@@ -72,7 +72,7 @@ laid_behind l donl number (Some vps) sps pps =
     ∙ ap (λ t. donl_bytes donl number ++ (sized vps ++ (dond_bytes l donl ++ (sized sps ++ (dond_bytes l donl ++ t)))))
     (sym (append-nil (sized pps)))
 
--- the sets of an aggregate behind its header, as they are written
+-- the sets of an aggregate after its header, as they are written
 pub sets_laid : (l : Layout) (donl : Bool) (number : ℕ) (vps : Option (List ℕ)) (sps pps : List ℕ)
     → (((donl_bytes donl number ++ sized_before l donl vps) ++ sized sps) ++ dond_bytes l donl) ++ sized pps
     ≡ in_aggregate (donl_bytes donl number) (dond_bytes l donl) (joining vps sps pps)

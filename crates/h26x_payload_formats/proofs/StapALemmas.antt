@@ -1,4 +1,4 @@
--- What stands in a STAP-A, and what stands behind its whole units.
+-- What is in a STAP-A, and what follows its whole units.
 use Rattle.std.proofs.Common.{◌≡◌, ℕ, ◌≤◌, List, [], ◌∷◌, ◌++◌, length, drop, None, Option, refl, sym, ap, ◌∙◌, arith}
 use Rattle.std.specs.List.{flat_map}
 use Rattle.std.proofs.lemmas.List.{length-append, nil_from_length}
@@ -12,7 +12,7 @@ bare : (units : List (List ℕ)) → in_aggregate [] [] units ≡ flat_map sized
 bare [] = refl
 bare (u ∷ us) = ap (λ t. sized u ++ t) (bare us)
 
--- units behind their sizes are read as they are
+-- units after their sizes are read as they are
 pub all_sized : (units : List (List ℕ)) → aggregated 0 0 (flat_map sized units) ≡ record { units = units; fault = None }
 all_sized units = ap (aggregated 0 0) (sym (bare units)) ∙ all_in_aggregate [] [] units
 
@@ -25,7 +25,7 @@ drop_past : (unit more rest : List ℕ) → drop (length (unit ++ more)) (unit +
 drop_past [] more rest = refl
 drop_past (b ∷ unit) more rest = drop_past unit more rest
 
--- what is behind the first unit and others is what is behind the others
+-- what is after the first unit and others is what is after the others
 pub drop_first : (text unit rest more : List ℕ) → IsSized 0 text unit rest → drop (length (sized unit ++ more)) text
     ≡ drop (length more) rest
 drop_first text unit rest more is = ap (drop (length (sized unit ++ more))) (text_is text unit rest is)

@@ -92,7 +92,7 @@ abbrev pub departure_packets : Layout → Bool → ℕ → ℕ → Departure →
 departure_packets l donl limit number (Together sets) = aggregate l donl number sets ∷ []
 departure_packets l donl limit number (Alone unit) = alone_packets l donl limit number unit
 
--- The packets of what leaves: an aggregate, or a unit alone, or its fragments where it passes the limit.
+-- The packets of what leaves: an aggregate, or a unit alone, or its fragments if it passes the limit.
 abbrev pub packets_of : Layout → Bool → ℕ → Numbered → List (List ℕ)
 packets_of l donl limit n = departure_packets l donl limit n.number n.departure
 

@@ -30,7 +30,7 @@ aggregated_in l donl body = aggregated (donl_size donl) (dond_size l donl) body
 abbrev pub is_irap_unit : Layout → List ℕ → Bool
 is_irap_unit l unit = is_irap l (unit_type l unit)
 
--- A fragment with S of such a unit, behind its header.
+-- A fragment with S of such a unit, after its header.
 abbrev pub starts_irap : Layout → List ℕ → Bool
 starts_irap l [] = false
 starts_irap l (fu ∷ part) = has_start fu && is_irap l (fu_type l fu)

@@ -16,7 +16,7 @@ waiting_in kept = option_map (λ s. s.now) kept.vps ∷ option_map (λ s. s.now)
 abbrev pub joining : Option (List ℕ) → List ℕ → List ℕ → List (List ℕ)
 joining vps sps pps = sets_in (vps ∷ Some sps ∷ Some pps ∷ [])
 
--- What precedes an SPS if there is a VPS: the VPS with its size, and DOND where it is sent.
+-- What precedes an SPS if there is a VPS: the VPS with its size, and DOND if it is sent.
 abbrev pub sized_before : Layout → Bool → Option (List ℕ) → List ℕ
 sized_before l donl None = []
 sized_before l donl (Some set) = sized set ++ dond_bytes l donl

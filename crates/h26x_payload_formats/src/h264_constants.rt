@@ -24,10 +24,10 @@ pub const FUA_NALU_TYPE: u8 = 28;
 /// The type of a fragmentation unit with a decoding order number, FU-B.
 pub const FUB_NALU_TYPE: u8 = 29;
 
-/// How many bytes stand before an FU-A's part of a unit.
+/// How many bytes are before an FU-A's part of a unit.
 pub const FUA_HEADER_SIZE: usize = 2;
 
-/// How many bytes stand before a STAP-A's first size.
+/// How many bytes are before a STAP-A's first size.
 pub const STAPA_HEADER_SIZE: usize = 1;
 
 /// How many bytes the size of an aggregated unit has.

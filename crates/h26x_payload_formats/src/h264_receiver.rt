@@ -66,7 +66,7 @@ fn refusal_of(fault: AggregateFault, behind: &[u8]) -> PacketError
     }
 }
 
-/// What is wrong with an aggregate behind its whole units, if anything.
+/// What is wrong with an aggregate after its whole units, if anything.
 fn stap_a_fault(body: &[u8]) -> Option<PacketError>
     ensures { result ≡ stap_a_fault body.now }
 {

@@ -26,11 +26,11 @@ const MAX_AGGREGATED: usize = 65_535;
 /// Cuts H.264 access units into packets: single units, STAP-A of the parameter sets, FU-A (RFC 6184 5.6,
 /// 5.7.1 and 5.8).
 ///
-/// A sample is an access unit as a byte stream: NAL units behind start codes (ITU-T H.264 annex B), not behind their
+/// A sample is an access unit as a byte stream: NAL units after start codes (ITU-T H.264 annex B), not after their
 /// lengths. Without a start code it is a single unit.
 ///
 /// Access unit delimiters and filler data are not sent. The latest SPS and the latest PPS wait for the next
-/// other unit, and leave before it, once both are there, in one STAP-A; where that passes the limit, or one is
+/// other unit, and leave before it, once both are there, in one STAP-A; if that passes the limit, or one is
 /// longer than 65,535 bytes, they are dropped. A unit that passes the limit leaves in FU-A packets that fill
 /// it; below limit 3 it is dropped.
 #[derive(Debug)]

@@ -14,7 +14,7 @@ fn is_irap_unit(layout: Layout, unit: &[u8]) -> bool
     layout.is_irap(layout.unit_type(unit))
 }
 
-/// Whether units in an aggregate, with so many bytes before the sizes, are of a random access picture.
+/// Whether units in an aggregate, with this many bytes before the sizes, are of a random access picture.
 fn has_irap(layout: Layout, lead: usize, later: usize, body: &[u8]) -> bool
     ensures { result ≡ list_any (is_irap_unit layout) (aggregated lead later body.now).units }
 {
@@ -33,7 +33,7 @@ fn has_irap(layout: Layout, lead: usize, later: usize, body: &[u8]) -> bool
     false
 }
 
-/// Whether a fragment, behind its header, starts a unit of a random access picture.
+/// Whether a fragment, after its header, starts a unit of a random access picture.
 fn starts_irap(layout: Layout, body: &[u8]) -> bool
     ensures { result ≡ starts_irap layout body.now }
 {

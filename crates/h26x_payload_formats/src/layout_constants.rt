@@ -3,7 +3,7 @@
 /// How many bytes the header of a unit or a packet has.
 pub const NALU_HEADER_SIZE: usize = 2;
 
-/// How many bytes stand before a fragment's part of a unit, without a decoding order number.
+/// How many bytes are before a fragment's part of a unit, without a decoding order number.
 pub const FRAGMENT_HEADER_SIZE: usize = 3;
 
 /// How many bytes the size of an aggregated unit has.

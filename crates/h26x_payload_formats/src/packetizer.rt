@@ -14,12 +14,12 @@ use std::alloc::Global;
 /// Cuts access units of H.265 and H.266 into packets: single units, aggregates of the parameter sets, fragments
 /// (RFC 7798 4.4, RFC 9328 4.3). No packet is longer than 1,200 bytes.
 ///
-/// A sample is an access unit as a byte stream: NAL units behind start codes (ITU-T H.265 annex B, H.266 annex B), not
-/// behind their lengths. Without a start code it is a single unit.
+/// A sample is an access unit as a byte stream: NAL units after start codes (ITU-T H.265 annex B, H.266 annex B), not
+/// after their lengths. Without a start code it is a single unit.
 ///
 /// Access unit delimiters and filler data are not sent. The latest VPS, the latest SPS and the latest PPS wait for
 /// the next other unit. They leave before it, once an SPS and a PPS are there, and of H.265 a VPS too, in one
-/// aggregate, of H.266 with the VPS if one waits; where that passes the limit, or one is longer than 65,535 bytes,
+/// aggregate, of H.266 with the VPS if one waits; if that passes the limit, or one is longer than 65,535 bytes,
 /// they are dropped. A unit that passes the limit leaves in fragments that fill it; below limit 4, or 6 with decoding
 /// order numbers, it is dropped. A unit of at most two bytes leaves as it is.
 #[derive(Debug)]

@@ -66,7 +66,7 @@ fn least_tid(vps: Option<&[u8]>, sps: &[u8], pps: &[u8]) -> u8
     }
 }
 
-/// Writes a decoding order number, where it is sent.
+/// Writes a decoding order number, if it is sent.
 fn push_donl(donl: bool, number: u16, out: &mut Vec<u8>) -> Result<(), AllocError>
     ensures { OnOk result (out.new.items ≡ out.old.items ++ donl_bytes donl number) }
 {
@@ -77,7 +77,7 @@ fn push_donl(donl: bool, number: u16, out: &mut Vec<u8>) -> Result<(), AllocErro
     Ok(())
 }
 
-/// Writes the difference to the decoding order number before, where it is sent.
+/// Writes the difference to the decoding order number before, if it is sent.
 fn push_dond(form: Form, out: &mut Vec<u8>) -> Result<(), AllocError>
     ensures { OnOk result (out.new.items ≡ out.old.items ++ dond_bytes form.layout form.donl) }
 {

@@ -36,7 +36,7 @@ impl<L: H265OrH266> Drop for H265OrH266Depacketizer<L> {
     }
 }
 
-/// Whether a packet is cut short behind its header.
+/// Whether a packet is cut short after its header.
 fn is_cut_short(layout: Layout, donl: bool, kind: PacketKind, body: &[u8]) -> bool
     ensures { result ≡ is_cut_short layout donl kind body.now }
 {

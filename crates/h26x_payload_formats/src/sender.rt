@@ -134,7 +134,7 @@ fn push_fragments(
     push_later_fragments(form, cut, rest, packets)
 }
 
-/// Sends a unit by itself, where it can leave; the number of the next unit.
+/// Sends a unit by itself, if it can leave; the number of the next unit.
 fn push_alone(
     form: Form,
     number: u16,
@@ -256,7 +256,7 @@ fn push_unit<'a>(
 ///
 /// # Errors
 ///
-/// `AllocError` where memory runs out. Some of the packets may then stand behind the old ones.
+/// `AllocError` if memory runs out. Some of the packets may then follow the old ones.
 pub fn push_units<'a>(
     form: Form,
     sample: &'a [u8],

@@ -1,4 +1,4 @@
--- What stands in an aggregate, unit by unit.
+-- What is in an aggregate, unit by unit.
 use Rattle.std.proofs.Common.{◌≡◌, ℕ, zero, suc, ◌+◌, ◌*◌, ◌/◌, ◌%◌, ◌<◌, ◌≤◌, Bool, true, false, leb, List, [], ◌∷◌}
 use Rattle.std.proofs.Common.{◌++◌, length, take, drop, None, Some, if◌then◌else◌, refl, sym, ap, ◌∙◌, arith}
 use Rattle.std.proofs.lemmas.Bool.Decides.{nat_tests}
@@ -16,7 +16,7 @@ one_unit others high low rest fits = if fits
     then with_first (take (size_of high low) rest) (others (drop (size_of high low) rest))
     else only_fault (Some PastEnd)
 
--- what is behind the first unit alone matters
+-- what is after the first unit alone matters
 same_others : (f g : List ℕ → Aggregated) (n : ℕ) (text : List ℕ) → length text ≤ suc n
     → ((rest : List ℕ) → length rest ≤ n → f rest ≡ g rest) → from_size f text ≡ from_size g text
 same_others f g n [] le same = refl
@@ -50,7 +50,7 @@ aggregated-from lead later b bs =
     (omega (arith, length-drop lead (b ∷ bs)))
     (λ rest short. enough (length bs) (length rest) later later rest short (omega arith))
 
--- by what stands behind the lead
+-- by what follows the lead
 pub short_is : (lead later : ℕ) (body : List ℕ) → 0 < length body → length body < lead + 2
     → aggregated lead later body ≡ only_fault (Some CutShort)
 short_is lead later [] some short = absurd (omega arith)
@@ -91,7 +91,7 @@ pub none_is : (lead later : ℕ) (body : List ℕ) → length body ≡ 0 → agg
 none_is lead later [] e = aggregated-none lead later
 none_is lead later (b ∷ bs) e = absurd (omega arith)
 
--- units behind their sizes are read as they are
+-- units after their sizes are read as they are
 pub all_sized : (first later : List ℕ) (units : List (List ℕ))
     → aggregated (length first) (length later) (in_aggregate first later units) ≡ record { units = units; fault = None }
 all_sized first later [] = aggregated-none (length first) (length later)

@@ -21,7 +21,7 @@ whole_by : (text : List ℕ) (end k : ℕ) → HasNoCodeBefore text end → leng
 whole_by text end k none past (inl lt) at = none k lt at
 whole_by text end k none past (inr le) at = none_last text k (omega (arith, past, le)) at
 
--- what is found, or isn't, behind places where no code begins
+-- what is found, or isn't, after places where no code begins
 pub found_behind : (text : List ℕ) (i end : ℕ) (found : Option ℕ) → HasNoCodeBefore text i → end ≡ length text - 2
     → MatchOption found (HasNoCodeBetween text i end) (λ place. HasCodeAt text place × HasNoCodeBetween text i place)
     → MatchOption found (HasNoCodeBefore text (length text)) (λ place. HasCodeAt text place × HasNoCodeBefore text place)

@@ -36,7 +36,7 @@ drop-front [] ys m = ap (λ n. drop n ys) (omega arith)
 drop-front (x ∷ xs) ys m = let e : suc (length xs) + m ≡ suc (length xs + m) = omega arith in
     ap (λ n. drop n (x ∷ (xs ++ ys))) e ∙ drop-front xs ys m
 
--- a head behind packets without heads
+-- a head after packets without heads
 record IsBehind (format : Format) (all rest : List (List ℕ)) (i : ℕ) : Type 0 where
   place : ℕ
   same : drop i all ≡ drop place rest
@@ -66,7 +66,7 @@ module _ (format : Format) (A : Type 0) (packets parts : A → List (List ℕ)) 
   gives_one [] given is = absurd is
   gives_one (p ∷ ps) given is = is.3
 
-  -- read one behind the other, they give all their parts
+  -- read one after the other, they give all their parts
   pub bundles-give : (bs : List A) → AreBundles bs → (extra : CodecExtra) → (x : CodecExtra)
       × (read_all format None extra (flat_map packets bs) ≡ ended (joined (flat_map parts bs)) x)
   bundles-give [] are extra = (extra, refl)
@@ -137,7 +137,7 @@ module _ (format : Format) (A : Type 0) (packets parts : A → List (List ℕ)) 
   length-marked packing [] = refl
   length-marked packing (p ∷ ps) = ap suc (length-marked packing ps)
 
-  -- where the marker makes the tail, at least one bundle is the frame of a unit
+  -- if the marker makes the tail, at least one bundle is the frame of a unit
   pub bundled-frame : (packing : Packing) → TailsAtMarker packing format → (a : A) (bs : List A)
       → AreBundles (a ∷ bs) → IsFrameOf format (marked packing (flat_map packets (a ∷ bs))) (flat_map parts (a ∷ bs))
   bundled-frame packing at_marker a bs are =

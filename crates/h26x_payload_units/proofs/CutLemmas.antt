@@ -118,7 +118,7 @@ pair_added : (a b : ℕ) (ps : List Piece) → IsStretch (b ∷ []) ps → IsStr
 pair_added a b [] is = short_holds_none (a ∷ b ∷ []) (omega arith)
 pair_added a b (p ∷ ps) is = (short_holds_none (a ∷ b ∷ []) (omega arith), ends_added a b [] is.1)
 
--- before a start code stands one more zero, or another byte
+-- before a start code is one more zero, or another byte
 before_code : (t : Bool) (a z : ℕ) (st : List ℕ) (ps : List Piece) → eqb a 0 ≡ t → ArePieces (piece z st ∷ ps)
     → IsLaidOut (a ∷ joined (piece z st ∷ ps))
     (if t then layout [] (piece (suc z) st ∷ ps) else layout (a ∷ []) (piece z st ∷ ps))

@@ -13,7 +13,7 @@ each_behind : (P : Departure → Type 0) (ds es : List Departure) → Each P ds 
 each_behind P [] es all others = others
 each_behind P (d ∷ ds) es all others = (all.0, each_behind P ds es all.1 others)
 
--- what leaves of units that are all so: sets where the needed ones wait and they can join, and units that can leave
+-- what leaves of units that are all so: sets if the needed ones wait and they can join, and units that can leave
 module _ (rules : Rules) (limit : ℕ) (P : Departure → Type 0) (IsSo : List ℕ → Type 0)
     (sets : (ws : Waiting) → are_ready rules.needed ws ≡ true → rules.can_join limit (sets_in ws) ≡ true
     → P (Together (sets_in ws)))

@@ -5,7 +5,7 @@ use Rattle.payload_core_base.specs.Packing.{is_none_left}
 use Rattle.payload_core_base.specs.Pieces.{pieces}
 use Rattle.payload_core_base.proofs.PieceLemmas.{pieces-empty, pieces-step}
 
--- no piece is left exactly where no byte is
+-- no piece is left if and only if no byte is
 pub none_left-pieces : (size : ℕ) (text : List ℕ) → 0 < size → is_none_left (pieces size text) ≡ eqb (length text) 0
 none_left-pieces size [] some_size = ap is_none_left (pieces-empty size)
 none_left-pieces size (b ∷ bs) some_size =

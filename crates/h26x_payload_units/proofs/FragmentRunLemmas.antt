@@ -18,7 +18,7 @@ last_of (p ∷ ps) = elim (last_of ps) [
   | inr some ↦ inr (p ∷ some.0, (some.1.0, ap (λ qs. p ∷ qs) some.1.1))
 ]
 
--- packets and one more: it is the start itself, or it comes behind the start
+-- packets and one more: it is the start itself, or it comes after the start
 record IsStartItself (h before later : List (List ℕ)) (p start : List ℕ) : Type 0 where
   none_later : later ≡ []
   same_start : start ≡ p

@@ -34,7 +34,7 @@ layout_of-alone (a ∷ text) none =
     ap (added a) (layout_of-alone text (λ k lt at. none (suc k) (omega arith) (code_shifted a text k at)))
     ∙ byte_alone a text (none 0 (omega arith))
 
--- what stands at a place stays without the zeros at the end
+-- what is at a place stays without the zeros at the end
 zero_at : (t : Bool) (a k : ℕ) → eqb a 0 ≡ t → get_or (if t then [] else a ∷ []) k 0 ≡ get_or (a ∷ []) k 0
 zero_at true a zero e = sym (eqb-true a 0 e)
 zero_at true a (suc k) e = refl
@@ -75,7 +75,7 @@ byte_before a (b ∷ c ∷ more) z st ps none = (
       else layout (a ∷ b ∷ c ∷ more) (piece z st ∷ ps)) (no_code a b c none),
 )
 
--- what stands behind the first start code
+-- what follows the first start code
 abbrev behind : ℕ → List ℕ → Layout
 behind i text = layout_of (drop (suc (suc (suc i))) text)
 

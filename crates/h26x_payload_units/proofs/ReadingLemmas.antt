@@ -34,7 +34,7 @@ pub nothing_goes_on : (f : Fragment) → f ≡ continued f []
 nothing_goes_on None = refl
 nothing_goes_on (Some w) = ap Some (sym (append-nil w))
 
--- units behind their start codes
+-- units after their start codes
 pub joined_codes : (us : List (List ℕ)) → joined (map behind_code us) ≡ flat_map behind_code us
 joined_codes [] = refl
 joined_codes (u ∷ us) = ap (λ t. behind_code u ++ t) (joined_codes us)

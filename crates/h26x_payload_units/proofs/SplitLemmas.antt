@@ -1,4 +1,4 @@
--- Units before and behind a start code.
+-- Units before and after a start code.
 use Rattle.std.proofs.Common.{◌≡◌, ℕ, suc, Bool, true, false, eqb, List, [], ◌∷◌, ◌++◌, replicate, refl, sym, ap, ◌∙◌}
 use Rattle.std.proofs.Common.{inl, inr, arith}
 use Rattle.std.specs.Prelude.{if◌then◌else◌}
@@ -9,7 +9,7 @@ use Rattle.h26x_payload_units.specs.Units.{PlaceLaw, is_code, layout_of, units_b
 use Rattle.h26x_payload_units.proofs.CutLemmas.{laid_out, layout, layout_of-code, layout_of-stretch, piece}
 use Rattle.h26x_payload_units.proofs.UnitLemmas.{no_first, unit_stays}
 
--- what stands before a stretch: a first stretch, pieces, and the zeros of the start code before that stretch
+-- what is before a stretch: a first stretch, pieces, and the zeros of the start code before that stretch
 record Front : Type 0 where
   first : List ℕ
   pieces : List Piece
@@ -21,7 +21,7 @@ front_of first pieces zeros = record { first = first; pieces = pieces; zeros = z
 abbrev with_rest : Front → List ℕ → List Piece → Layout
 with_rest f s qs = layout f.first (f.pieces ++ piece f.zeros s ∷ qs)
 
--- a byte more at the front changes nothing of what stands behind
+-- a byte more at the front changes nothing of what follows
 abbrev IsFrontWith : ℕ → Front → Front → Type 0
 IsFrontWith a f g = (s : List ℕ) (qs : List Piece) → with_byte a f.first (f.pieces ++ piece f.zeros s ∷ qs)
     ≡ with_rest g s qs
@@ -52,7 +52,7 @@ front_with a [] (p ∷ ps) z = by_zero (eqb a 0) a z p.zeros p.stretch ps
 front_with a (b ∷ []) ps z = (front_of (a ∷ b ∷ []) ps z, λ s qs. refl)
 front_with a (b ∷ c ∷ more) ps z = by_code (is_code a b c) a b c z more ps
 
--- what stands before a start code's end is a front, whatever stands behind
+-- what is before a start code's end is a front, whatever follows
 front_before : (before : List ℕ) → (g : Front)
     × ((rest : List ℕ) → layout_of (before ++ (0 ∷ 0 ∷ 1 ∷ rest))
     ≡ with_rest g (layout_of rest).first (layout_of rest).pieces)
@@ -93,7 +93,7 @@ units_of-front before rest =
     ∙ units_of_layout-some f.first f.pieces (piece f.zeros r.first) r.pieces
     ∙ units_of_pieces-append f.pieces (piece f.zeros r.first ∷ r.pieces)
 
--- the units of a text are those up to a start code's end, and those of what stands behind it
+-- the units of a text are those up to a start code's end, and those of what follows it
 pub units_of-split : (before rest : List ℕ) → units_of (before ++ (0 ∷ 0 ∷ 1 ∷ rest))
     ≡ units_of (before ++ (0 ∷ 0 ∷ 1 ∷ [])) ++ units_behind rest
 unfolding units_behind

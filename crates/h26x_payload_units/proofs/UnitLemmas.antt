@@ -5,7 +5,7 @@ use Rattle.h26x_payload_units.specs.Cut.{text_of, units_of_layout, units_of_piec
 use Rattle.h26x_payload_units.specs.Units.{ComesBack, UnitsLaw, layout_of, units_of}
 use Rattle.h26x_payload_units.proofs.CutLemmas.{laid_out, layout_of-joined}
 
--- a stretch that ends in no zero stands before units
+-- a stretch that ends in no zero is before units
 unit_before : (s : List ℕ) (us : List (List ℕ)) → HoldsNoCode s → EndsInNoZero s → AreUnits us
     → AreUnits (with_unit s us)
 unit_before [] us none ends are = are
@@ -32,7 +32,7 @@ unfolding units_of
 units_law text = let is = laid_out text in
     layout_units (layout_of text).first (layout_of text).pieces is.is_first is.are_pieces
 
--- each unit behind a start code of three zeros
+-- each unit after a start code of three zeros
 pieces_of : List (List ℕ) → List Piece
 pieces_of [] = []
 pieces_of (u ∷ us) = record { zeros = 3; stretch = u } ∷ pieces_of us

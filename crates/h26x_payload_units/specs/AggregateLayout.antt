@@ -1,4 +1,4 @@
--- The layout of an aggregation packet: units, each preceded by its size, with so many bytes before the first size and
+-- The layout of an aggregation packet: units, each preceded by its size, with this many bytes before the first size and
 -- so many before each later one (RFC 7798 4.4.2, RFC 9328 4.3.2).
 use Rattle.std.specs.Prelude.{◌≡◌, ◌↔◌, ℕ, ◌+◌, ◌*◌, ◌<◌, List, [], ◌∷◌, ◌++◌, length, Option, Some, None}
 use Rattle.h26x_payload_units.specs.declared.aggregates.AggregateFault.{AggregateFault}

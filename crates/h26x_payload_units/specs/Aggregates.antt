@@ -1,4 +1,4 @@
--- Units in an aggregation packet, each preceded by a two-byte size, and by other bytes before the size where the format
+-- Units in an aggregation packet, each preceded by a two-byte size, and by other bytes before the size if the format
 -- has them (RFC 7798 4.4.2, RFC 9328 4.3.2).
 use Rattle.std.specs.Prelude.{ℕ, zero, suc, ◌+◌, ◌*◌, ◌/◌, ◌%◌, List, [], ◌∷◌, ◌++◌, length, take, drop, nat_le}
 use Rattle.std.specs.Prelude.{Option, Some, None, if◌then◌else◌}
@@ -35,7 +35,7 @@ from_size others (high ∷ low ∷ rest) =
     then with_first (take (high * 256 + low) rest) (others (drop (high * 256 + low) rest))
     else only_fault (Some PastEnd)
 
--- At most so many units, with so many bytes before the first size and so many before each later one.
+-- At most this many units, with this many bytes before the first size and so many before each later one.
 abbrev pub aggregated_within : ℕ → ℕ → ℕ → List ℕ → Aggregated
 aggregated_within n lead later [] = only_fault None
 aggregated_within zero lead later (b ∷ bs) = only_fault None

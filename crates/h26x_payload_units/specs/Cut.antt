@@ -12,7 +12,7 @@ pub record Layout : Type 0 where
   pub first : List ℕ
   pub pieces : List Piece
 
--- The text of pieces, one behind the other.
+-- The text of pieces, one after the other.
 abbrev pub joined : List Piece → List ℕ
 joined [] = []
 joined (p ∷ ps) = replicate p.zeros 0 ++ (1 ∷ (p.stretch ++ joined ps))
@@ -72,7 +72,7 @@ AreUnits [] = Unit {0}
 AreUnits (u ∷ []) = IsUnit u
 AreUnits (u ∷ v ∷ us) = (IsUnit u × EndsInNoZero u) × AreUnits (v ∷ us)
 
--- The text of units, each behind 00 00 00 01.
+-- The text of units, each after 00 00 00 01.
 abbrev pub text_of : List (List ℕ) → List ℕ
 text_of [] = []
 text_of (u ∷ us) = 0 ∷ 0 ∷ 0 ∷ 1 ∷ (u ++ text_of us)

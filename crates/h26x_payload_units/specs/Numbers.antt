@@ -30,7 +30,7 @@ NumbersLaw = (n : ℕ) (ds es : List Departure) → n < 65536
     → (number_after n ds ≡ (n + length (flat_map units_in ds)) % 65536)
     × (numbered n (ds ++ es) ≡ numbered n ds ++ numbered (number_after n ds) es)
 
--- DONL, where decoding order numbers are sent: two bytes.
+-- DONL, if decoding order numbers are sent: two bytes.
 abbrev pub donl_bytes : Bool → ℕ → List ℕ
 donl_bytes donl number = if donl then number / 256 ∷ number % 256 ∷ [] else []
 

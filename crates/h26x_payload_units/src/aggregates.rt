@@ -1,4 +1,4 @@
-//! Units that stand in an aggregate, each behind its size (RFC 7798 4.4.2, RFC 9328 4.3.2).
+//! Units that are in an aggregate, each after its size (RFC 7798 4.4.2, RFC 9328 4.3.2).
 
 ghost use Rattle.h26x_payload_units.specs.Aggregates.{aggregated, only_fault, sized, with_first};
 ghost use Rattle.h26x_payload_units.specs.Fragments.{behind_code};
@@ -17,12 +17,12 @@ pub enum AggregateFault {
     PastEnd,
 }
 
-/// The first unit of an aggregate that is not empty, with `lead` bytes before its size, and what stands behind the
+/// The first unit of an aggregate that is not empty, with `lead` bytes before its size, and what follows the
 /// unit.
 ///
 /// # Errors
 ///
-/// `CutShort` where the bytes end before a size does, `PastEnd` where a size passes the end.
+/// `CutShort` if the bytes end before a size does, `PastEnd` if a size passes the end.
 pub fn first_aggregated(lead: usize, body: &[u8]) -> Result<(&[u8], &[u8]), AggregateFault>
     ensures unit { IfOk result (λ cut. (later : ℕ) → aggregated lead later body.now
         ≡ with_first cut.0.now (aggregated later later cut.1.now)) }
@@ -66,12 +66,12 @@ pub fn aggregate_fault(lead: usize, later: usize, body: &[u8]) -> Option<Aggrega
     None
 }
 
-/// The whole units of an aggregate, each behind a start code, with `lead` bytes before the first size and `later`
+/// The whole units of an aggregate, each after a start code, with `lead` bytes before the first size and `later`
 /// before each later one.
 ///
 /// # Errors
 ///
-/// `AllocError` where memory runs out.
+/// `AllocError` if memory runs out.
 pub fn aggregated_units(
     alloc: Global,
     lead: usize,
@@ -94,7 +94,7 @@ pub fn aggregated_units(
     Ok(written)
 }
 
-/// Writes a unit behind its size.
+/// Writes a unit after its size.
 ///
 /// # Conditions
 ///
@@ -102,7 +102,7 @@ pub fn aggregated_units(
 ///
 /// # Errors
 ///
-/// `AllocError` where memory runs out. A part of it may then stand behind the old bytes.
+/// `AllocError` if memory runs out. A part of it may then follow the old bytes.
 pub fn push_sized(unit: &[u8], out: &mut Vec<u8>) -> Result<(), AllocError>
     requires { length unit.now ≤ 65535 }
     ensures { OnOk result (out.new.items ≡ out.old.items ++ sized unit.now) }

@@ -25,7 +25,7 @@ impl H265NALUHeader {
         H265NALUHeader(nalu_type as u16 * 512 + layer_id as u16 * 8 + tid as u16)
     }
 
-    /// F, which is set where something is wrong.
+    /// F, which is set if something is wrong.
     pub fn f(&self) -> bool
         ensures { result ≡ word_has_f self.now.0 }
     {

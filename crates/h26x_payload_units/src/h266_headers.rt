@@ -28,7 +28,7 @@ impl H266NALUHeader {
         H266NALUHeader(layer * 256 + nalu_type * 8 + tid as u16 % 8)
     }
 
-    /// F, which is set where something is wrong.
+    /// F, which is set if something is wrong.
     pub fn f(&self) -> bool
         ensures { result ≡ word_has_f self.now.0 }
     {

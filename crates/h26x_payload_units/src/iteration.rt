@@ -10,7 +10,7 @@ use crate::places::{code_place, first_stretch};
 /// It doesn't allocate.
 #[derive(Clone, Debug, Drop)]
 pub struct NalUnits<'a> {
-    // What stands behind the start code that was read last, or the whole byte stream where it holds none.
+    // What follows the start code that was read last, or the whole byte stream if it holds none.
     rest: &'a [u8],
 }
 

@@ -21,7 +21,7 @@ pub enum Layout {
 pub enum PacketKind {
     /// A unit alone.
     Single,
-    /// Units behind their sizes.
+    /// Units after their sizes.
     Aggregate,
     /// A part of a unit.
     Fragment,
@@ -67,14 +67,14 @@ pub fn has_f(high: u8) -> bool
     high >= 128
 }
 
-/// S in the byte behind a fragment's header.
+/// S in the byte after a fragment's header.
 pub fn has_start(fu: u8) -> bool
     ensures { result ≡ has_start fu }
 {
     fu / 128 % 2 == 1
 }
 
-/// E in the byte behind a fragment's header.
+/// E in the byte after a fragment's header.
 pub fn has_end(fu: u8) -> bool
     ensures { result ≡ has_end fu }
 {
@@ -242,7 +242,7 @@ impl Layout {
         }
     }
 
-    /// The type in the byte behind a fragment's header.
+    /// The type in the byte after a fragment's header.
     pub fn fu_type(self, fu: u8) -> u8
         ensures { result ≡ fu_type self fu }
     {
@@ -252,7 +252,7 @@ impl Layout {
         }
     }
 
-    /// The byte behind a fragment's header.
+    /// The byte after a fragment's header.
     pub fn fu_byte(self, first: bool, last: bool, nalu_type: u8) -> u8
         ensures { result ≡ fu_byte self first last nalu_type }
     {

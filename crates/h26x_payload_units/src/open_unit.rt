@@ -1,4 +1,4 @@
-//! Units that are put together from fragments, and the start code that each unit is written behind.
+//! Units that are put together from fragments, and the start code that each unit is written after.
 
 ghost use Rattle.h26x_payload_units.specs.Fragments.{behind_code, continued, open_after, put_behind, written_at};
 ghost use Rattle.std.specs.Prelude.{◌++◌, ◌≡◌, IfOk, None, OnErr, OnOk, true};
@@ -6,14 +6,14 @@ ghost use Rattle.std.specs.Prelude.{◌++◌, ◌≡◌, IfOk, None, OnErr, OnOk
 use std::alloc::{AllocError, Global};
 use std::marker::Model;
 
-/// The start code that each unit is written behind (ITU-T H.264 annex B).
+/// The start code that each unit is written after (ITU-T H.264 annex B).
 pub const ANNEXB_NALUSTART_CODE: [u8; 4] = [0, 0, 0, 1];
 
-/// Writes a unit behind its start code. Where memory runs out, `out` is as it was.
+/// Writes a unit after its start code. If memory runs out, `out` is as it was.
 ///
 /// # Errors
 ///
-/// `AllocError` where memory runs out.
+/// `AllocError` if memory runs out.
 pub fn push_unit(unit: &[u8], out: &mut Vec<u8>) -> Result<(), AllocError>
     ensures written { OnOk result (out.new.items ≡ out.old.items ++ behind_code unit.now) }
     ensures unchanged { OnErr result (out.new.items ≡ out.old.items) }
@@ -27,11 +27,11 @@ pub fn push_unit(unit: &[u8], out: &mut Vec<u8>) -> Result<(), AllocError>
     Ok(())
 }
 
-/// Writes a unit of a header and a body behind its start code. Where memory runs out, `out` is as it was.
+/// Writes a unit of a header and a body after its start code. If memory runs out, `out` is as it was.
 ///
 /// # Errors
 ///
-/// `AllocError` where memory runs out.
+/// `AllocError` if memory runs out.
 pub fn push_unit_of(header: &[u8], body: &[u8], out: &mut Vec<u8>) -> Result<(), AllocError>
     ensures written { OnOk result (out.new.items ≡ out.old.items ++ behind_code (header.now ++ body.now)) }
     ensures unchanged { OnErr result (out.new.items ≡ out.old.items) }
@@ -45,7 +45,7 @@ pub fn push_unit_of(header: &[u8], body: &[u8], out: &mut Vec<u8>) -> Result<(),
     Ok(())
 }
 
-/// A unit that begins with this header, behind its start code.
+/// A unit that begins with this header, after its start code.
 fn begun(alloc: Global, header: &[u8], part: &[u8]) -> Result<Vec<u8>, AllocError>
     ensures { IfOk result (λ v. v.items ≡ behind_code (header.now ++ part.now)) }
 {
@@ -58,7 +58,7 @@ fn begun(alloc: Global, header: &[u8], part: &[u8]) -> Result<Vec<u8>, AllocErro
 /// A unit that has begun in a fragment and has not ended, if there is one.
 pub struct OpenUnit {
     alloc: Global,
-    // The unit's bytes so far, behind its start code.
+    // The unit's bytes so far, after its start code.
     bytes: Option<Vec<u8>>,
 }
 
@@ -90,12 +90,12 @@ impl OpenUnit {
     }
 
     /// Takes a fragment: with `is_start` it begins a unit with this header, whatever was open; else it goes on with
-    /// the open one, and is passed over where none is. With `is_end` the unit is then written behind its start code,
-    /// and none is open. Where memory runs out, the open unit and `out` are as they were.
+    /// the open one, and is passed over where none is. With `is_end` the unit is then written after its start code,
+    /// and none is open. If memory runs out, the open unit and `out` are as they were.
     ///
     /// # Errors
     ///
-    /// `AllocError` where memory runs out.
+    /// `AllocError` if memory runs out.
     pub fn put(
         &mut self,
         is_start: bool,

@@ -18,7 +18,7 @@ pub fn set_of(set: &Option<Vec<u8>>) -> Option<&[u8]>
 ///
 /// # Errors
 ///
-/// `AllocError` where memory runs out.
+/// `AllocError` if memory runs out.
 pub fn copy_of_set(alloc: Global, set: Option<&[u8]>) -> Result<Option<Vec<u8>>, AllocError>
     ensures { IfOk result (λ copy. option_map (λ v. v.items) copy ≡ option_map (λ s. s.now) set.entry) }
 {

@@ -1,4 +1,4 @@
-//! Where start codes stand.
+//! Where start codes are.
 
 ghost use Rattle.std.specs.Prelude.{◌≡◌, ℕ, ◌+◌, ◌-◌, ◌<◌, ◌≤◌, IsTrue, MatchOption, length};
 ghost use Rattle.h26x_payload_units.specs.Places.{HasCodeAt, HasNoCodeBefore, HasNoCodeBetween};

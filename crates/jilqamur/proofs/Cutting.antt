@@ -1,4 +1,4 @@
--- A packetizer behind a sample that it cut.
+-- A packetizer after a sample that it cut.
 use Rattle.std.proofs.Common.{◌≡◌, ℕ, List, subst, Result, Ok, Err}
 use Rattle.payload_core_base.specs.Packing.{Packing, Sends, Sent}
 use Rattle.payload_core_base.specs.declared.error.PacketError.{PacketError}

@@ -49,7 +49,7 @@ AnswersOffer e sections result text after = Where (are_sound sections)
     ⊎ IsRefusedAs e (λ error. Refuses error (refusal_of_offer e.exchange sections)) result after)
     (AreUnsound e result after)
 
--- An answer's text is left, where nothing refuses it.
+-- An answer's text is left, if nothing refuses it.
 pub record Answered (e : EndState) (offer : List ℕ) (sections : List Wanted) (text : List ℕ) (after : EndState)
     : Type 0 where
   pub may_answer : MayAnswer e.exchange offer sections
@@ -63,7 +63,7 @@ AnswersAnswer e offer sections result text after = Where (are_sound sections)
     ⊎ IsRefusedAs e (RefusesAnswer e.exchange offer sections) result after)
     (AreUnsound e result after)
 
--- An answer's text is taken, where nothing refuses it.
+-- An answer's text is taken, if nothing refuses it.
 pub record Accepted (e : EndState) (answer : List ℕ) (after : EndState) : Type 0 where
   pub may_accept : MayAccept e.exchange answer
   pub accepts : Accepts e.exchange answer after.exchange

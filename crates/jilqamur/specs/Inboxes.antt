@@ -43,7 +43,7 @@ pub record Takes (p : InboxState) (low time : ℕ) (marker : Bool) (payload : Li
   pub stays : result ≡ memory → after.stream ≡ p.stream
   pub unit : after.unit ≡ p.unit
 
--- What a poll answers by the stream's step; where memory runs out for a unit that is ready, its frame stays.
+-- What a poll answers by the stream's step; if memory runs out for a unit that is ready, its frame stays.
 pub record AnswersPoll (p : InboxState) (step : PollStep Receiving) (result : ℕ) (after : InboxState) : Type 0 where
   pub number : result ≢ memory → result ≡ poll_code (given step.answer)
   pub unit_is : result ≢ memory → after.unit ≡ unit_behind (given step.answer) p.unit

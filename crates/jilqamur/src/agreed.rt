@@ -108,7 +108,7 @@ pub extern "C" fn jilqamur_end_agreed_section(
 
 /// Copies the codec's name of the row of this place in the agreed section of that place, both counted from 0, and
 /// tells its numbers: `OK`, or `TOO_SMALL`, and the buffer is unchanged; `needed` is the name's length in bytes.
-/// `NOTHING` where there is none of that place.
+/// `NOTHING` if there is none of that place.
 #[unsafe(no_mangle)]
 pub extern "C" fn jilqamur_end_agreed_row(
     end: &mut EndHandle,
@@ -145,7 +145,7 @@ pub extern "C" fn jilqamur_end_agreed_row(
 }
 
 /// Tells the SSRC of this place, counted from 0, among those that the other end names in the agreed section of that
-/// place: `OK`, or `NOTHING` where there is none, and `told` is unchanged.
+/// place: `OK`, or `NOTHING` if there is none, and `told` is unchanged.
 #[unsafe(no_mangle)]
 pub extern "C" fn jilqamur_end_agreed_ssrc(
     end: &mut EndHandle,

@@ -20,7 +20,7 @@ pub fn sample_code(error: SampleError) -> u32
     }
 }
 
-/// Keeps the unit of a poll, where there is one, and returns the poll's number.
+/// Keeps the unit of a poll, if there is one, and returns the poll's number.
 pub fn poll_code(answer: Result<Option<Unit>, PollFault>, unit: &mut Option<Unit>) -> u32
     ensures code { result ≡ poll_code answer }
     ensures unit { unit.new ≡ unit_behind answer unit.old }

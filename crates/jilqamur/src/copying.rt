@@ -31,7 +31,7 @@ pub fn copy_numbers(numbers: &[u64], buffer: &mut [u64], needed: &mut usize) -> 
     codes::OK
 }
 
-/// The text that bytes are, where they are UTF-8.
+/// The text that bytes are, if they are UTF-8.
 #[tactic(auto, using(payload_core_base::proofs::Texts::text, payload_core_base::proofs::Texts::no_text))]
 pub fn text_in(bytes: &[u8]) -> Option<&str>
     ensures some { IfSome result (λ text. (text.now ≡ bytes.now) × (is_utf8 bytes.now ≡ true)) }

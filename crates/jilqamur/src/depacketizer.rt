@@ -56,7 +56,7 @@ pub extern "C" fn jilqamur_depacketizer_open(
     }
 }
 
-/// Frees the depacketizer, and returns `OK`, or `CLOSED` where it holds none; it holds nothing from now on.
+/// Frees the depacketizer, and returns `OK`, or `CLOSED` if it holds none; it holds nothing from now on.
 #[unsafe(no_mangle)]
 pub extern "C" fn jilqamur_depacketizer_close(
     alloc: Global,

@@ -138,7 +138,7 @@ impl Draft {
         }
     }
 
-    /// Puts the default rows of Opus, VP8, H.264, H.265, VP9 and AV1 behind those of the draft, in this order, and
+    /// Puts the default rows of Opus, VP8, H.264, H.265, VP9 and AV1 after those of the draft, in this order, and
     /// returns `OK`; or `MEMORY`, and nothing has changed.
     pub fn add_default_rows(&mut self, alloc: Global) -> u32
         ensures outcome { result ≢ memory → result ≡ ok }
@@ -235,7 +235,7 @@ impl Draft {
         }
     }
 
-    /// Puts a wish behind those for the sections of the next browser's offer, with the repairs that are there, which
+    /// Puts a wish after those for the sections of the next browser's offer, with the repairs that are there, which
     /// are used up, and returns `OK`; or `MEMORY`, and nothing has changed.
     pub fn add_wish(
         &mut self,

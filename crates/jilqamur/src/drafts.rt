@@ -43,7 +43,7 @@ pub extern "C" fn jilqamur_end_row(
     held.draft.add_row(row, codec, format)
 }
 
-/// Puts the default rows of Opus, VP8, H.264, H.265, VP9 and AV1 behind those of the draft, in this order, and
+/// Puts the default rows of Opus, VP8, H.264, H.265, VP9 and AV1 after those of the draft, in this order, and
 /// returns `OK`; or `MEMORY`, and nothing has changed.
 #[unsafe(no_mangle)]
 pub extern "C" fn jilqamur_end_default_rows(alloc: Global, end: &mut EndHandle) -> u32

@@ -71,7 +71,7 @@ pub extern "C" fn jilqamur_end_offer(alloc: Global, end: &mut EndHandle) -> u32
 }
 
 /// Answers an offer by the gathered sections, which are used up, and returns `OK`: the text is left to be fetched.
-/// `NOT_TEXT` for bytes that aren't UTF-8, `NOT_MADE` without an end, `OUT_OF_RANGE` where the repairs of a section
+/// `NOT_TEXT` for bytes that aren't UTF-8, `NOT_MADE` without an end, `OUT_OF_RANGE` if the repairs of a section
 /// don't fit its SSRCs; else the first that holds of `TEXT_UNREADABLE`, `OUT_OF_TURN`, `NOT_MEDIA`,
 /// `NOT_CORRESPONDING`, `ROUND`, `NO_COMMON_ROW` and `NOT_WRITABLE`, or `MEMORY`, and end and text stay.
 #[unsafe(no_mangle)]
@@ -138,7 +138,7 @@ pub extern "C" fn jilqamur_end_accept(end: &mut EndHandle, answer: &[u8]) -> u32
     }
 }
 
-/// Gives a pending offer up, and returns `OK`; `NOTHING` where none is pending, `NOT_MADE` without an end.
+/// Gives a pending offer up, and returns `OK`; `NOTHING` if none is pending, `NOT_MADE` without an end.
 #[unsafe(no_mangle)]
 pub extern "C" fn jilqamur_end_withdraw(end: &mut EndHandle) -> u32
     ensures answer { AtObject (end_in end.old) (end_in end.new) result

@@ -12,7 +12,7 @@ use rtp_wire::{ExtensionValues, Pt, RtpHeader, Ssrc};
 #[repr(C)]
 #[derive(Clone, Copy, Drop)]
 pub struct WireHeader {
-    /// Whether padding stands behind the payload.
+    /// Whether padding follows the payload.
     pub has_padding: bool,
     /// Whether there is an extension block; one that is written is empty.
     pub has_extension: bool,

@@ -40,7 +40,7 @@ impl Inbox {
     ///
     /// # Errors
     ///
-    /// `OUT_OF_RANGE` where `held` isn't 4,096 to 16,384, or why the format is none, as `read_format` says it.
+    /// `OUT_OF_RANGE` if `held` isn't 4,096 to 16,384, or why the format is none, as `read_format` says it.
     pub fn new(
         alloc: Global,
         format: &WireFormat,
@@ -104,7 +104,7 @@ impl Inbox {
         }
     }
 
-    /// Returns `OK` where a unit is ready, which is left to be fetched. `NOTHING` where none is, `PAYLOAD` where a
+    /// Returns `OK` if a unit is ready, which is left to be fetched. `NOTHING` if none is, `PAYLOAD` if a
     /// packet of the next frame is refused, which is then done with, or `MEMORY`, and the frame stays.
     pub fn poll(&mut self) -> u32
         ensures answer { Polls self.old result self.new }

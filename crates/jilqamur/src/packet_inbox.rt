@@ -1,4 +1,4 @@
-//! A depacketizer of a codec, behind a buffer.
+//! A depacketizer of a codec, after a buffer.
 
 ghost use Rattle.std.specs.Prelude.{◌≡◌, ◌≢◌, IfOk, IfErr, OnOk};
 ghost use Rattle.jilqamur.specs.Codes.{ok, memory, nothing};
@@ -22,7 +22,7 @@ use rtp_wire::{ExtensionValues, SeqNo};
 use std::alloc::Global;
 use std::marker::Model;
 
-/// A depacketizer behind its buffer, and the unit that was popped last.
+/// A depacketizer after its buffer, and the unit that was popped last.
 #[derive(Drop)]
 pub struct PacketInbox {
     format: RowFormat,
@@ -50,7 +50,7 @@ impl Model for PacketInbox {
         ≡ format_of p.format };
 }
 
-/// Keeps the unit of a pop, where there is one, and returns the pop's number.
+/// Keeps the unit of a pop, if there is one, and returns the pop's number.
 fn pop_code(
     popped: Result<Option<Depacketized>, PacketError>,
     unit: &mut Option<PayloadUnit>,
@@ -75,7 +75,7 @@ impl PacketInbox {
     ///
     /// # Errors
     ///
-    /// `OUT_OF_RANGE` where `held` isn't 4,096 to 16,384, or why the format is none, as `read_format` says it.
+    /// `OUT_OF_RANGE` if `held` isn't 4,096 to 16,384, or why the format is none, as `read_format` says it.
     pub fn new(
         alloc: Global,
         format: &WireFormat,

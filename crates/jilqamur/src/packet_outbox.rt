@@ -156,7 +156,7 @@ impl PacketOutbox {
     }
 
     /// Copies the packet of this place, counted from 0, that the last sample left, and returns `OK`, or `TOO_SMALL`,
-    /// and the buffer is unchanged; `needed` is its length in bytes, and `marker` its marker. `NOTHING` where there is
+    /// and the buffer is unchanged; `needed` is its length in bytes, and `marker` its marker. `NOTHING` if there is
     /// none of that place.
     pub fn packet(
         &mut self,

@@ -17,7 +17,7 @@ use crate::object::Object;
 use crate::packet_outbox::{PacketOutbox, WirePacketizer};
 use std::alloc::Global;
 
-/// Holds a packetizer that cut nothing, and returns `OK`; or `IN_USE` where it holds one already, why the
+/// Holds a packetizer that cut nothing, and returns `OK`; or `IN_USE` if it holds one already, why the
 /// parameters make none, or `MEMORY`, and is unchanged.
 #[unsafe(no_mangle)]
 pub extern "C" fn jilqamur_packetizer_open(
@@ -53,7 +53,7 @@ pub extern "C" fn jilqamur_packetizer_open(
     }
 }
 
-/// Frees the packetizer, and returns `OK`, or `CLOSED` where it holds none; it holds nothing from now on.
+/// Frees the packetizer, and returns `OK`, or `CLOSED` if it holds none; it holds nothing from now on.
 #[unsafe(no_mangle)]
 pub extern "C" fn jilqamur_packetizer_close(alloc: Global, packetizer: &mut PacketizerHandle) -> u32
     ensures held { result ≡ answer_of (packetizer_in packetizer.old) }
@@ -91,7 +91,7 @@ pub extern "C" fn jilqamur_packetizer_packetize(
 }
 
 /// Copies the packet of this place, counted from 0, that the last sample left, and returns `OK`, or `TOO_SMALL`,
-/// and the buffer is unchanged; `needed` is its length in bytes, and `marker` its marker. `NOTHING` where there is
+/// and the buffer is unchanged; `needed` is its length in bytes, and `marker` its marker. `NOTHING` if there is
 /// none of that place.
 #[unsafe(no_mangle)]
 pub extern "C" fn jilqamur_packetizer_packet(

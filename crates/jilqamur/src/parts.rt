@@ -8,7 +8,7 @@ use std::marker::Model;
 
 /// A box taken apart; it owns what the box owned.
 pub struct Parts<T, A: Allocator> {
-    /// Where the value stands.
+    /// Where the value is.
     pub ptr: *mut T,
     /// What gives its memory back.
     pub alloc: A,

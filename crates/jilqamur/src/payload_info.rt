@@ -22,15 +22,15 @@ pub struct WirePacketInfo {
     pub shows_key_frame: bool,
     /// Whether it tells its spatial layer.
     pub has_spatial_layer: bool,
-    /// The spatial layer, 0 where it isn't told.
+    /// The spatial layer, 0 if it isn't told.
     pub spatial_layer: u8,
     /// Whether it tells its temporal layer.
     pub has_temporal_layer: bool,
-    /// The temporal layer, 0 where it isn't told.
+    /// The temporal layer, 0 if it isn't told.
     pub temporal_layer: u8,
 }
 
-/// A layer, or 0 where none is told.
+/// A layer, or 0 if none is told.
 fn layer_told(layer: Option<u8>) -> u8
     ensures { result ≡ layer_told layer }
 {

@@ -24,11 +24,11 @@ pub struct WireUnit {
     pub is_keyframe: bool,
     /// Whether VP8 or VP9 gives a picture id.
     pub has_picture_id: bool,
-    /// The picture id, of 7 or 15 bits (RFC 7741 4.2, RFC 9628 4.2); 0 where none is given.
+    /// The picture id, of 7 or 15 bits (RFC 7741 4.2, RFC 9628 4.2); 0 if none is given.
     pub picture_id: u16,
     /// Whether VP8 gives the index of the temporal base layer frame.
     pub has_base_layer: bool,
-    /// That index, TL0PICIDX (RFC 7741 4.2); 0 where none is given.
+    /// That index, TL0PICIDX (RFC 7741 4.2); 0 if none is given.
     pub base_layer: u8,
     /// Whether the unit is a packet of telephone events, whose first report follows (RFC 4733 2.3).
     pub has_event: bool,

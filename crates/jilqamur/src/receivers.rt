@@ -20,7 +20,7 @@ use crate::payload_unit::WireUnit;
 use crate::stream_fetch::unit_at;
 use std::alloc::Global;
 
-/// Holds a stream that took nothing, and returns `OK`; or `IN_USE` where it is open, `OUT_OF_RANGE` where `held`
+/// Holds a stream that took nothing, and returns `OK`; or `IN_USE` if it is open, `OUT_OF_RANGE` if `held`
 /// isn't 4,096 to 16,384, why the format is none, or `MEMORY`, and is unchanged.
 #[unsafe(no_mangle)]
 pub extern "C" fn jilqamur_receiver_open(
@@ -57,7 +57,7 @@ pub extern "C" fn jilqamur_receiver_open(
     }
 }
 
-/// Frees the stream, and returns `OK`, or `CLOSED` where it is closed; it is closed from now on.
+/// Frees the stream, and returns `OK`, or `CLOSED` if it is closed; it is closed from now on.
 #[unsafe(no_mangle)]
 pub extern "C" fn jilqamur_receiver_close(alloc: Global, receiver: &mut ReceiverHandle) -> u32
     ensures held { result ≡ answer_of (receiver_in receiver.old) }
@@ -91,7 +91,7 @@ pub extern "C" fn jilqamur_receiver_push(
     inbox.push(low, time, marker, payload, number)
 }
 
-/// Returns `OK` where a unit is ready, which is left to be fetched. `NOTHING` where none is, `PAYLOAD` where a
+/// Returns `OK` if a unit is ready, which is left to be fetched. `NOTHING` if none is, `PAYLOAD` if a
 /// packet of the next frame is refused, which is then done with, or `MEMORY`, and the frame stays.
 #[unsafe(no_mangle)]
 pub extern "C" fn jilqamur_receiver_poll(receiver: &mut ReceiverHandle) -> u32

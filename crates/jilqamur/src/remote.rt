@@ -66,7 +66,7 @@ fn remote_told(plan: &Plan) -> WireRemote
     }
 }
 
-/// The text of a part, where it is told.
+/// The text of a part, if it is told.
 fn part_of(alloc: Global, remote: &Remote, part: u8) -> Result<Option<String>, AllocError>
     ensures { IfOk result (λ text. option_map string_bytes text ≡ part_of remote.now part) }
 {
@@ -88,7 +88,7 @@ fn part_of(alloc: Global, remote: &Remote, part: u8) -> Result<Option<String>, A
     Ok(None)
 }
 
-/// The text of a candidate, where there is one of that place.
+/// The text of a candidate, if there is one of that place.
 fn candidate_of(alloc: Global, remote: &Remote, index: usize) -> Result<Option<String>, AllocError>
     ensures { IfOk result (λ text. option_map string_bytes text ≡ candidate_of remote.now index) }
 {
@@ -146,8 +146,8 @@ pub extern "C" fn jilqamur_end_remote_text(
     }
 }
 
-/// Copies the text of the browser's candidate of this place, counted from 0, as it stands behind `a=` (RFC 8839
-/// 5.1). `OK`, or `TOO_SMALL`, and the buffer is unchanged; `needed` is its length in bytes. `NOTHING` where there
+/// Copies the text of the browser's candidate of this place, counted from 0, as it follows `a=` (RFC 8839
+/// 5.1). `OK`, or `TOO_SMALL`, and the buffer is unchanged; `needed` is its length in bytes. `NOTHING` if there
 /// is none of that place; or `MEMORY`, and nothing has changed.
 #[unsafe(no_mangle)]
 pub extern "C" fn jilqamur_end_remote_candidate(

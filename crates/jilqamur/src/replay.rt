@@ -17,7 +17,7 @@ pub struct Replay {
 }
 
 impl Replay {
-    /// Takes a datagram in: its number, where it begins with a header, is widened and recorded, or refused.
+    /// Takes a datagram in: its number, if it begins with a header, is widened and recorded, or refused.
     pub fn receive(&mut self, datagram: &[u8]) -> Reception
         ensures answer { result ≡ reception_of self.old.window (header_in empty_map datagram.now) }
         ensures after { self.new ≡ behind datagram.now self.old }

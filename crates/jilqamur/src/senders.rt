@@ -16,7 +16,7 @@ use crate::object::Object;
 use crate::outbox::{Outbox, WireSender};
 use std::alloc::Global;
 
-/// Holds a stream that sent nothing, and returns `OK`; or `IN_USE` where it is open, why the parameters make none,
+/// Holds a stream that sent nothing, and returns `OK`; or `IN_USE` if it is open, why the parameters make none,
 /// or `MEMORY`, and is unchanged.
 #[unsafe(no_mangle)]
 pub extern "C" fn jilqamur_sender_open(
@@ -51,7 +51,7 @@ pub extern "C" fn jilqamur_sender_open(
     }
 }
 
-/// Frees the stream, and returns `OK`, or `CLOSED` where it is closed; it is closed from now on.
+/// Frees the stream, and returns `OK`, or `CLOSED` if it is closed; it is closed from now on.
 #[unsafe(no_mangle)]
 pub extern "C" fn jilqamur_sender_close(alloc: Global, sender: &mut SenderHandle) -> u32
     ensures held { result ≡ answer_of (sender_in sender.old) }

@@ -33,7 +33,7 @@ pub(crate) fn mid_of(text: &str) -> Option<Mid>
     Some(Mid::from(text))
 }
 
-/// Opens a sending stream of these parameters, where they are sound.
+/// Opens a sending stream of these parameters, if they are sound.
 fn open_with(
     end: &mut End,
     mid: &str,

@@ -12,7 +12,7 @@ use crate::payload_unit::{WireUnit, wire_unit};
 use payload_core_buffer::Unit;
 use rtp_media_streams::Datagram;
 
-/// Copies the bytes of a unit to the front of a buffer, and tells what is told beside; `NOTHING` where there is none.
+/// Copies the bytes of a unit to the front of a buffer, and tells what is told beside; `NOTHING` if there is none.
 pub fn unit_at(
     unit: &Option<Unit>,
     buffer: &mut [u8],
@@ -37,7 +37,7 @@ pub fn unit_at(
     }
 }
 
-/// Copies the datagram of this place to the front of a buffer; `NOTHING` where there is none of that place.
+/// Copies the datagram of this place to the front of a buffer; `NOTHING` if there is none of that place.
 pub fn datagram_at(
     datagrams: &[Datagram],
     index: usize,

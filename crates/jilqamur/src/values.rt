@@ -56,7 +56,7 @@ pub struct WireValues {
     pub clock_offset: i64,
 }
 
-/// A value, where it is given.
+/// A value, if it is given.
 pub fn if_given<T>(has: bool, value: T) -> Option<T>
 where
     T: Copy + Drop,

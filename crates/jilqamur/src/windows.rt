@@ -17,7 +17,7 @@ use crate::object::Object;
 use crate::replay::{Replay, reception_code};
 use std::alloc::Global;
 
-/// Holds a new window, and returns `OK`; or `IN_USE` where it holds one already, or `MEMORY`, and is unchanged.
+/// Holds a new window, and returns `OK`; or `IN_USE` if it holds one already, or `MEMORY`, and is unchanged.
 #[unsafe(no_mangle)]
 pub extern "C" fn jilqamur_window_open(alloc: Global, window: &mut WindowHandle) -> u32
     ensures opened { result ≡ ok → window_in window.new ≡ Some fresh }
@@ -39,7 +39,7 @@ pub extern "C" fn jilqamur_window_open(alloc: Global, window: &mut WindowHandle)
     }
 }
 
-/// Frees the window, and returns `OK`, or `CLOSED` where it holds none; it holds nothing from now on.
+/// Frees the window, and returns `OK`, or `CLOSED` if it holds none; it holds nothing from now on.
 #[unsafe(no_mangle)]
 pub extern "C" fn jilqamur_window_close(alloc: Global, window: &mut WindowHandle) -> u32
     ensures held { result ≡ answer_of (window_in window.old) }
@@ -49,7 +49,7 @@ pub extern "C" fn jilqamur_window_close(alloc: Global, window: &mut WindowHandle
 }
 
 /// Takes a datagram in, and returns `OK`: `number` is its widened sequence number, which is recorded. `UNREADABLE`
-/// where it doesn't begin with a header, or `REFUSED` where its number came before, or is 1,024 or more below the
+/// if it doesn't begin with a header, or `REFUSED` if its number came before, or is 1,024 or more below the
 /// greatest, and nothing has changed.
 #[unsafe(no_mangle)]
 pub extern "C" fn jilqamur_window_receive(

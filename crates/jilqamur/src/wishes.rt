@@ -13,7 +13,7 @@ use crate::handle::EndHandle;
 use crate::object::Object;
 use std::alloc::Global;
 
-/// Puts a wish behind those for the sections of the next browser's offer, with the repairs that are there, which are
+/// Puts a wish after those for the sections of the next browser's offer, with the repairs that are there, which are
 /// used up, and returns `OK`; or `MEMORY`, and nothing has changed. At a closed handle it is `CLOSED`.
 #[unsafe(no_mangle)]
 pub extern "C" fn jilqamur_end_wish(

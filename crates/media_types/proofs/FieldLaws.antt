@@ -1,4 +1,4 @@
--- What holds where the last of several values was written.
+-- What holds if the last of several values was written.
 use Rattle.std.proofs.Common.{Result, Ok, Err, OnOk}
 
 pub on_ok : {A E P Q : Type 0} (r : Result A E) → (P → Q) → OnOk r P → OnOk r Q

@@ -23,7 +23,7 @@ number_found number (y ∷ ys) wanted x f =
     found_by number wanted (eqb (number y) wanted) y x (find (λ z. eqb (number z) wanted) ys) refl
     (number_found number ys wanted x) f
 
--- a table is one where each value's own number finds it
+-- a table is one if each value's own number finds it
 pub is_table : {X : Type 0} (number : X → ℕ) (table : List X)
     → ((x : X) → with_number number table (number x) ≡ Some x) → IsTable number table
 is_table number table own wanted x = (
@@ -84,7 +84,7 @@ ordered number table cmp stands e x y =
     (holds_of (λ z. all_of (is_ordered number table cmp z) table) table (place_of number table x) x e (stands x))
     (stands y)
 
--- a table is rising where each value stands at its place, and all pairs are ordered
+-- a table is rising if each value is at its place, and all pairs are ordered
 pub is_rising : {X : Type 0} (number : X → ℕ) (table : List X) (cmp : X → X → Ordering)
     → ((x : X) → slice_get table (place_of number table x) ≡ Some x) → are_ordered number table cmp ≡ true
     → IsRising number table cmp

@@ -8,7 +8,7 @@ use Rattle.media_types.specs.declared.profile_tier_level.ProfileTierLevel.{Profi
 use Rattle.media_types.specs.declared.tier.Tier.{Tier}
 use Rattle.media_types.specs.declared.tier.Tier.TheVariants.{Main}
 
--- The three together, where each is known.
+-- The three together, if each is known.
 abbrev pub together : {P L : Type 0} → Option P → Option Tier → Option L → Option (ProfileTierLevel P L)
 together (Some profile) (Some tier) (Some level) = Some (record { profile = profile; tier = tier; level = level })
 together _ _ _ = None

@@ -15,7 +15,7 @@ byte_written text =
     then Some (digits_value 10 (without_leading_plus text))
     else None
 
--- The number that a value writes; another one where no value is given.
+-- The number that a value writes; another one if no value is given.
 abbrev pub given_or : ℕ → Option (List ℕ) → Option ℕ
 given_or absent None = Some absent
 given_or absent (Some text) = byte_written text

@@ -76,7 +76,7 @@ impl Numbered for H264ProfileIdc {
     }
 }
 
-/// The profile_idc of a byte; `UnknownProfileIdc` where no profile has it.
+/// The profile_idc of a byte; `UnknownProfileIdc` if no profile has it.
 impl TryFrom<u8> for H264ProfileIdc {
     type Error = H264ProfileError;
 
@@ -167,7 +167,7 @@ impl Numbered for H264LevelIdc {
     }
 }
 
-/// The level of a level_idc byte; `UnknownLevelIdc` where no level has it.
+/// The level of a level_idc byte; `UnknownLevelIdc` if no level has it.
 impl TryFrom<u8> for H264LevelIdc {
     type Error = H264ProfileError;
 

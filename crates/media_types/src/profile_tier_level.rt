@@ -40,7 +40,7 @@ pub struct ProfileTierLevel<P, L> {
 }
 
 impl<P: InTable, L: InTable> ProfileTierLevel<P, L> {
-    /// What stands where a session text says nothing.
+    /// What is if a session text says nothing.
     pub(crate) fn absent() -> Self
         ensures { result ≡ fallback P.FALLBACK L.FALLBACK }
     {

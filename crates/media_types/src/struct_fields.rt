@@ -148,7 +148,7 @@ fn read_map<T: ReadFields, F: Format>(
 ///
 /// # Errors
 ///
-/// Where it came before, or memory runs out.
+/// If it came before, or memory runs out.
 fn note<F: Format>(
     places: &mut Vec<usize>,
     place: usize,
@@ -174,7 +174,7 @@ fn has(places: &[usize], place: usize) -> bool
     places.iter().any(|noted| *noted == place)
 }
 
-/// Refuses the end of a map where a field is missing that is required: the first of them.
+/// Refuses the end of a map if a field is missing that is required: the first of them.
 fn check_required<F: Format>(
     names: &[Name<'_>],
     required: &[usize],

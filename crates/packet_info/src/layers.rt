@@ -81,7 +81,7 @@ fn h26x_layers(layout: Layout, packet: &[u8]) -> Layers
     }
 }
 
-/// The bytes after a size in leb128 of at most so many bytes (AV1 bitstream specification 4.10.5).
+/// The bytes after a size in leb128 of at most this many bytes (AV1 bitstream specification 4.10.5).
 fn behind_size(most: u8, bytes: &[u8]) -> Option<&[u8]>
     ensures { MatchOption result (behind_size most bytes.now ≡ None) (λ r. behind_size most bytes.now ≡ Some r.now) }
 {

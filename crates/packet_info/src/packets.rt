@@ -82,7 +82,7 @@ pub(crate) fn is_tail(codec: Codec, marker: bool) -> bool
     }
 }
 
-/// How many bytes VP9's picture id has, behind this first byte (RFC 9628 4.2).
+/// How many bytes VP9's picture id has, after this first byte (RFC 9628 4.2).
 fn picture_id_size(first: u8, rest: &[u8]) -> usize
     ensures { result ≡ picture_id_size first rest.now }
 {

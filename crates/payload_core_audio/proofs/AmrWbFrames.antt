@@ -8,7 +8,7 @@ use Rattle.payload_core_audio.specs.AmrWb.{speech_bits, speech_of}
 use Rattle.payload_core_audio.specs.AmrWbLayout.{Frame, IsFrameAt, field_bits, fields_bits, frame_bytes}
 use Rattle.payload_core_audio.proofs.AmrWbLemmas.{behind_none, frames_go, is_room}
 
--- frames whose entries begin with the k-th, and whose speech stands from a place on and ends within the packet
+-- frames whose entries begin with the k-th, and whose speech is from a place on and ends within the packet
 abbrev pub Stand : Bool → List ℕ → ℕ → ℕ → List Frame → Type 0
 Stand o packet k place [] = Unit {0}
 Stand o packet k place (f ∷ fs) = IsFrameAt packet (entry_place o k) place f
@@ -109,7 +109,7 @@ next_sooner o packet k place g gs j f at =
     (entry_place o (k + 1 + j)) (place + field_bits o g + fields_bits o (take j gs)) f (ap (entry_place o) entry)
     (sym (more_bits o place g (take j gs))) at
 
--- frames that stand so are each at their places
+-- frames that are so are each at their places
 pub each_stands : (o : Bool) (packet : List ℕ) (k place : ℕ) (fs : List Frame) → Stand o packet k place fs → (j : ℕ)
     (f : Frame) → slice_get fs j ≡ Some f → IsNext o packet k place fs j f
 each_stands o packet k place [] s j f e = absurd cc
@@ -135,7 +135,7 @@ stand_within o packet k place (g ∷ gs) le s = subst (λ n. n ≤ 8 * length pa
 pub front_fits : (a b c : ℕ) → a + b ≤ c → a ≤ c
 front_fits a b c le = omega arith
 
--- frames that are each at their places, and end within the packet, stand so
+-- frames that are each at their places, and end within the packet, are so
 pub stand_by : (o : Bool) (packet : List ℕ) (k place : ℕ) (fs : List Frame)
     → ((j : ℕ) (f : Frame) → slice_get fs j ≡ Some f → IsNext o packet k place fs j f)
     → place + fields_bits o fs ≤ 8 * length packet → Stand o packet k place fs

@@ -86,7 +86,7 @@ same_field p q a b size same = ap (λ (f : ℕ → ℕ). bytes_from f ((size + 7
     at i true e = same i (grind (arith, nat_tests))
     at i false e = refl
 
--- a packet whose only entry is that of a sample, with the sample's speech behind it, gives the sample's frame
+-- a packet whose only entry is that of a sample, with the sample's speech after it, gives the sample's frame
 one_frame : (o : Bool) (packet sample : List ℕ) (size : ℕ) → Some size ≡ speech_bits (header_at sample 0 / 8)
     → entry_place o 1 + field_size o size ≤ 8 * length packet
     → bit_of packet (entry_place o 0) ≡ 0 → header_at sample 0 ≡ header_at packet (entry_place o 0)

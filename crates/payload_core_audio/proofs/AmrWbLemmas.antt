@@ -42,7 +42,7 @@ first_none p (suc n) k none =
     ap (λ b. if b then Some k else first_place p (k + 1) n) (none k (omega arith) (omega arith))
     ∙ first_none p n (k + 1) (λ j from to. none j (omega arith) (omega arith))
 
--- entries stand one behind the other
+-- entries are one after the other
 pub next_entry : (o : Bool) (k : ℕ) → entry_place o k + entry_size o ≡ entry_place o (k + 1)
 next_entry true k = omega arith
 next_entry false k = omega arith

@@ -165,7 +165,7 @@ whole : (a b count : ℕ) → 8 ≤ count → a ≡ b → a ≡ front_of count b
 whole a b count le same = let t : leb 8 count ≡ true = grind (arith, nat_tests) in
     same ∙ sym (ap (λ (x : Bool). if x then b else b / 2 ^ (8 - count) * 2 ^ (8 - count)) t)
 
--- the first bits of a byte, and zeros behind them
+-- the first bits of a byte, and zeros after them
 front_bits : (size k count : ℕ) (bit : ℕ → ℕ) → ((i : ℕ) → bit i < 2) → size ≡ 8 * k + count → 0 < count
     → byte_from (first_bits size bit) k ≡ front_of count (byte_from bit k)
 front_bits size k zero bit small is some = absurd (omega arith)
@@ -354,6 +354,6 @@ octets bytes place o n is room small = ext_get_or 0 (take n (drop o bytes)) (byt
         ∙ byte-here bytes (place + 8 * i) (o + i) 0 (omega arith) (omega arith) (small (o + i)) (small (o + i + 1))
         ∙ high (get_or bytes (o + i) 0) (get_or bytes (o + i + 1) 0) (small (o + i)) (small (o + i + 1))
 
--- the octets of a text are below 256, and 0 behind it
+-- the octets of a text are below 256, and 0 after it
 pub octet-small : (bytes : List ℕ) → ((k : ℕ) → Fits w8 (get_or bytes k 0)) → (k : ℕ) → get_or bytes k 0 < 256
 octet-small bytes fit k = omega (arith, fit k)

@@ -37,7 +37,7 @@ sent-room bs = All-map HasRoom masked (take 32 (filter fits bs)) (kept-room bs)
 pub sent-few : (bs : List Block) → length (sent_blocks bs) ≤ 32
 sent-few bs = omega (arith, length-map (take 32 (filter fits bs)) masked, length-take 32 (filter fits bs))
 
--- one more that fits, where there is room for it
+-- one more that fits, if there is room for it
 pub kept-more : (bs : List Block) (b : Block) → length (take 32 (filter fits bs)) < 32 → fits b ≡ true
     → take 32 (filter fits (bs ++ b ∷ [])) ≡ take 32 (filter fits bs) ++ b ∷ []
 kept-more bs b short is =
@@ -57,7 +57,7 @@ kept-not bs b is =
     let none : List Block = [] in
     ap (take 32) (filter-append fits bs (b ∷ []) ∙ ap (λ t. fs ++ cond t (b ∷ none) none) is ∙ append-nil fs)
 
--- one more where there is no room
+-- one more if there is no room
 pub kept-full : (bs : List Block) (b : Block) → 32 ≤ length (take 32 (filter fits bs))
     → take 32 (filter fits (bs ++ b ∷ [])) ≡ take 32 (filter fits bs)
 kept-full bs b full =

@@ -22,12 +22,12 @@ items-length (suc (suc n)) hs ps = omega (arith, items-length (suc n) (drop 4 hs
 abbrev pub AreBytes : List ℕ → Type 0
 AreBytes text = (k : ℕ) → slice_index text k < 256
 
--- the blocks whose headers and payloads stand there
+-- the blocks whose headers and payloads are there
 blocks_from : ℕ → List ℕ → List ℕ → List Block
 blocks_from zero hs ps = []
 blocks_from (suc n) hs ps = block_at hs ps ∷ blocks_from n (drop 4 hs) (drop (size_at hs) ps)
 
--- the headers and payloads are those of so many blocks, and what is behind them
+-- the headers and payloads are those of this many blocks, and what is after them
 record AreSpelled (n : ℕ) (hs ps : List ℕ) (bs : List Block) : Type 0 where
   pub headers : hs ≡ flat_map header bs ++ drop (4 * n) hs
   pub payloads : ps ≡ payloads_of bs ++ drop (size_of_blocks n hs) ps
@@ -107,7 +107,7 @@ blocks-spelled (suc n) (a ∷ b ∷ c ∷ d ∷ rest) ps bytes set long within =
           ∙ ap (λ p. redundant_item block ∷ items_of bs (pt_at (drop (4 * suc n) hs)) p) (sym left);
     }
 
--- what is read of a packet of so many blocks is in it
+-- what is read of a packet of this many blocks is in it
 blocks-read : (packet : List ℕ) (n : ℕ) → AreBytes packet → IsCounted packet n
     → 4 * n + 1 + size_of_blocks n packet ≤ length packet
     → IsReadAs packet (items_from (suc n) packet (drop (4 * n + 1) packet))

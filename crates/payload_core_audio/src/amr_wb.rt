@@ -54,7 +54,7 @@ fn field_size(octet_align: bool, size: usize) -> usize
     }
 }
 
-/// How many speech bits a sample has, if it has just the bytes of so many.
+/// How many speech bits a sample has, if it has just the bytes of this many.
 fn sample_size(bytes: &[u8]) -> Option<usize>
     requires { 0 < length bytes.now }
     ensures value { result ≡ sample_size bytes.now }
@@ -64,7 +64,7 @@ fn sample_size(bytes: &[u8]) -> Option<usize>
     (bytes.len() == (size + 7) / 8 + 1).then_some(size)
 }
 
-/// How many entries the table of contents of a packet has, and the place behind them, if all are there.
+/// How many entries the table of contents of a packet has, and the place after them, if all are there.
 fn entries(octet_align: bool, packet: &[u8]) -> Option<(usize, BitPlace)>
     ensures found { IfSome result (λ e. (last_entry octet_align packet.now ≡ Some (e.0 - 1)) × (0 < e.0)) }
     ensures place { IfSome result (λ e. (place_of e.1 ≡ entry_place octet_align e.0)
@@ -88,7 +88,7 @@ fn entries(octet_align: bool, packet: &[u8]) -> Option<(usize, BitPlace)>
     None
 }
 
-/// The frames of so many entries, whose speech stands from a place on: each its header and its speech.
+/// The frames of this many entries, whose speech is from a place on: each its header and its speech.
 fn frames(
     alloc: Global,
     octet_align: bool,

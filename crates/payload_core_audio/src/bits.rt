@@ -5,7 +5,7 @@ ghost use Rattle.payload_core_audio.specs.BitBytes.{bits_from};
 ghost use Rattle.std.specs.Prelude.{◌≡◌, ◌+◌, ◌*◌, ◌%◌, ◌<◌, ◌≤◌, ◌^◌, IfNone, IfSome, length, nat_le};
 ghost use Rattle.std.specs.Prelude.{slice_index};
 
-/// The octet at a place of a text, or 0 behind it.
+/// The octet at a place of a text, or 0 after it.
 pub fn octet_at(bytes: &[u8], k: usize) -> u8
     ensures { result ≡ slice_index bytes.now k }
 {
@@ -23,7 +23,7 @@ pub struct BitPlace {
 impl BitPlace {
     ghost use Rattle.payload_core_audio.specs.BitPlaces.{place_of};
 
-    /// The place behind so many bits of the text.
+    /// The place after this many bits of the text.
     pub fn at(bits: usize) -> Self
         ensures { place_of result ≡ bits }
     {
@@ -33,7 +33,7 @@ impl BitPlace {
         }
     }
 
-    /// The place so many bits behind this one.
+    /// The place this many bits after this one.
     pub fn after(&self, bits: usize) -> Self
         requires few { bits ≤ 4096 }
         requires room { place_of self.now < 2 ^ 66 }
@@ -46,7 +46,7 @@ impl BitPlace {
         }
     }
 
-    /// Whether the text has so many bits from here on.
+    /// Whether the text has this many bits from here on.
     pub fn has_room(&self, bytes: &[u8], bits: usize) -> bool
         requires few { bits ≤ 4096 }
         requires room { place_of self.now ≤ 8 * length bytes.now }
@@ -65,7 +65,7 @@ impl BitPlace {
         (bytes[self.octet] >> (7 - self.bit)) % 2
     }
 
-    /// The byte whose bits begin here, with zeros behind the text.
+    /// The byte whose bits begin here, with zeros after the text.
     pub fn byte(&self, bytes: &[u8]) -> u8
         requires { place_of self.now < 8 * length bytes.now }
         ensures { result ≡ byte_from (bits_from bytes.now (place_of self.now)) 0 }

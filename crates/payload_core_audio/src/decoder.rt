@@ -24,7 +24,7 @@ pub struct RedBlocks<'a> {
     left: usize,
 }
 
-/// What stands before and behind so many bytes, where there are so many.
+/// What is before and after this many bytes, if there are so many.
 fn parted(text: &[u8], size: usize) -> (&[u8], &[u8])
     ensures front { result.0.now ≡ take size text.now }
     ensures behind { result.1.now ≡ drop size text.now }
@@ -32,14 +32,14 @@ fn parted(text: &[u8], size: usize) -> (&[u8], &[u8])
     text.split_at(size.min(text.len()))
 }
 
-/// The offset in the header that stands in front.
+/// The offset in the header that is in front.
 fn offset_at(headers: &[u8]) -> u32
     ensures { result ≡ offset_at headers.now }
 {
     u32::from(byte_at(headers, 1)) * 64 + u32::from(byte_at(headers, 2) / 4)
 }
 
-/// The length in the header that stands in front.
+/// The length in the header that is in front.
 fn size_at(headers: &[u8]) -> usize
     ensures value { result ≡ size_at headers.now }
     ensures few { result < 1024 }
@@ -47,7 +47,7 @@ fn size_at(headers: &[u8]) -> usize
     usize::from(byte_at(headers, 2) % 4) * 256 + usize::from(byte_at(headers, 3))
 }
 
-/// How many headers stand before the first with F clear; None where they are more than 32.
+/// How many headers are before the first with F clear; None if they are more than 32.
 fn count_of_blocks(packet: &[u8]) -> Option<usize>
     ensures value { result ≡ count_of_blocks packet.now }
     ensures few { IfSome result (λ count. count ≤ 32) }

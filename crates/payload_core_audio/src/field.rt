@@ -8,7 +8,7 @@ ghost use Rattle.std.specs.Prelude.{◌≡◌, ◌+◌, ◌*◌, ◌<◌, ◌≤
 use crate::bits::BitPlace;
 use std::alloc::AllocError;
 
-/// The first so many bits of a byte, with zeros behind them.
+/// The first this many bits of a byte, with zeros after them.
 pub fn front_of(count: usize, byte: u8) -> u8
     requires { 0 < count }
     ensures { result ≡ front_of count byte }
@@ -28,7 +28,7 @@ pub fn header_at(bytes: &[u8], place: BitPlace) -> u8
     place.byte(bytes) % 128 / 4 * 4
 }
 
-/// Appends so many bytes that begin at a place.
+/// Appends this many bytes that begin at a place.
 fn push_bytes(
     bytes: &[u8],
     place: BitPlace,
@@ -50,7 +50,7 @@ fn push_bytes(
     Ok(())
 }
 
-/// Appends so many bits from a place on, filled up with zeros to whole bytes.
+/// Appends this many bits from a place on, filled up with zeros to whole bytes.
 pub fn push_speech(
     bytes: &[u8],
     place: BitPlace,

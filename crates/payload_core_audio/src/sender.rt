@@ -145,8 +145,8 @@ impl RedSender {
         self.history.remove(0);
     }
 
-    /// The packet for a payload of this type and RTP time: the payload behind the longest prefix of the
-    /// existing levels, shallowest first, such that all stay within the budget in bytes. The deepest stands
+    /// The packet for a payload of this type and RTP time: the payload after the longest prefix of the
+    /// existing levels, shallowest first, such that all stay within the budget in bytes. The deepest is
     /// first, and a level that fits no block is passed over.
     ///
     /// A payload that passes the budget with one byte more is returned as it is. Either way it is kept, beside

@@ -10,7 +10,7 @@ use rtp_wire::ExtensionValues;
 
 /// Wraps each payload beside older ones, and hands it to an inner sink with its marker, time and values.
 ///
-/// Where memory runs out, the inner sink takes nothing, and the payload isn't kept for later ones.
+/// If memory runs out, the inner sink takes nothing, and the payload isn't kept for later ones.
 #[derive(Drop)]
 pub struct RedSink<S> {
     sink: S,

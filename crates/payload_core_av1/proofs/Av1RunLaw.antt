@@ -150,7 +150,7 @@ pub record IsBetween (z : Bool) (p : List ℕ) (ts : List (List ℕ)) (os : List
   pub plain : z ≡ false → p ≡ []
   pub more : z ≡ true → 0 < length ts
 
--- one packet: whole units, and the state behind it
+-- one packet: whole units, and the state after it
 pub record IsStep (limit : ℕ) (z n : Bool) (p : List ℕ) (ts : List (List ℕ)) (os : List Obu) : Type 0 where
   pub count : ℕ
   pub part : List ℕ

@@ -1,4 +1,4 @@
--- What makes just the bodies be read that are elements behind their sizes.
+-- What makes just the bodies be read that are elements after their sizes.
 use Rattle.std.proofs.Common.{◌≡◌, ℕ, zero, suc, ◌-◌, ◌≤◌, false, eqb, List, [], ◌∷◌, length, None, Some, Option}
 use Rattle.std.proofs.Common.{if◌then◌else◌, refl, sym, ap, subst, ◌∙◌, arith}
 use Rattle.std.proofs.lemmas.Bool.Decides.{nat_tests}

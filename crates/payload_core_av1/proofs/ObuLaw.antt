@@ -40,7 +40,7 @@ payload-read false size payload rest is at_end small =
     ∙ ap (λ p. if_small (Some (record { part = p; rest = [] }))) (append-nil payload) ∙ small_part payload [] small
     ∙ ap (λ r. Some (record { part = payload; rest = r })) (sym none_left)
 
--- a unit in front of a rest, which is empty where the unit has no size
+-- a unit in front of a rest, which is empty if the unit has no size
 pub first-read : (text rest : List ℕ) (o : Obu) → IsObu text o → (has_size o.header ≡ false → rest ≡ [])
     → first_obu (text ++ rest) ≡ Some (record { obu = o; rest = rest })
 first-read text rest o is at_end =
@@ -56,7 +56,7 @@ pub obu-read : (text : List ℕ) (o : Obu) → IsObu text o → whole_obu text �
 obu-read text o is = ap (λ t. if_whole (first_obu t)) (sym (append-nil text))
     ∙ ap if_whole (first-read text [] o is (λ e. refl))
 
--- a unit that was read of this header and extension, and the rest behind it
+-- a unit that was read of this header and extension, and the rest after it
 record IsFound (header : ℕ) (extension : Option ℕ) (s : Bool) (text : List ℕ) (cut : ObuCut) : Type 0 where
   size : List ℕ
   laid_out : text ≡ size ++ (cut.obu.payload ++ cut.rest)
@@ -100,7 +100,7 @@ payload_found header extension true text cut is = by_cut (sized_part text) refl 
         by_smallness header extension true text sized.size part cut sized.laid_out sized.spells (λ e. absurd (cc))
         (ltb (length part.part) payload_limit) refl is
 
--- a unit that stands in front of a text
+-- a unit that is in front of a text
 pub record IsFirst (text : List ℕ) (cut : ObuCut) : Type 0 where
   pub front : List ℕ
   pub laid_out : text ≡ front ++ cut.rest

@@ -57,7 +57,7 @@ greatest-is test (suc n) g le holds above = by_test (test (suc n)) refl (greates
           absurd (false≢true (sym e ∙ ap test same ∙ holds (omega arith)))
     ]
 
--- prefixes that end within the first text, and behind it
+-- prefixes that end within the first text, and after it
 pub front-zero : (es : List (List ℕ)) → front 0 es ≡ []
 front-zero [] = refl
 front-zero (e ∷ es) = refl
@@ -182,7 +182,7 @@ le-leb a b e = grind (arith, nat_tests)
 gt-leb : (a b : ℕ) → b < a → leb a b ≡ false
 gt-leb a b e = grind (arith, nat_tests)
 
--- as the last element at a place no text takes fewer bytes than it has, or more than behind its size
+-- as the last element at a place no text takes fewer bytes than it has, or more than after its size
 pub last-between : (place n : ℕ) → (n ≤ last_len place n) × (last_len place n ≤ length (spelling n) + n)
 last-between place n = by_place (ltb place 3)
   where

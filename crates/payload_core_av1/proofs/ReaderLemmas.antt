@@ -11,7 +11,7 @@ use Rattle.payload_core_av1.specs.Av1Reading.{in_front}
 use Rattle.payload_core_av1.specs.Av1Reading.{joined_option, opened, opened_by, sized_elements}
 use Rattle.payload_core_av1.specs.Av1ReadingViews.{Gathers, all_in_front, fresh, given_of}
 
--- the rest behind a part is shorter
+-- the rest after a part is shorter
 abbrev RestWithin : ℕ → Option Cut → Type 0
 RestWithin n None = Unit {0}
 RestWithin n (Some cut) = length cut.part + length cut.rest < n
@@ -118,7 +118,7 @@ pub none_behind : (before : List ℕ) (o : Option (List ℕ)) → joined_option 
 none_behind before None is = refl
 none_behind before (Some bytes) is = absurd (cc)
 
--- with others behind it the first element is complete, and the last is one of the others
+-- with others after it the first element is complete, and the last is one of the others
 pub complete-more : (y : Bool) (e o : List ℕ) (os : List (List ℕ)) → complete y (e ∷ o ∷ os) ≡ e ∷ complete y (o ∷ os)
 complete-more true e o os =
     let n : length (e ∷ o ∷ os) - 1 ≡ suc (length os) = omega arith in
@@ -158,7 +158,7 @@ gathers-both before middle after e es first others = by_given (given e) (all_giv
 pub none-first : (e : List ℕ) (es : List (List ℕ)) → given e ≡ None → all_given (e ∷ es) ≡ None
 none-first e es is = ap (λ o. joined_option o (all_given es)) is
 
--- the first element goes on with what is open, and others stand behind it
+-- the first element goes on with what is open, and others follow it
 begun_joined : (f e : List ℕ) (es : List (List ℕ)) → 0 < length e → begun true (Some f) (e ∷ es) ≡ fresh ((f ++ e) ∷ es)
 begun_joined f [] es some = absurd (omega arith)
 begun_joined f (b ∷ bs) es some = refl

@@ -13,7 +13,7 @@ use Rattle.payload_core_av1.specs.Samples.{kept_of}
 use Rattle.payload_core_av1.specs.Samples.{obu_in_front, obus_of, obus_within}
 use Rattle.payload_core_av1.proofs.ObuLaw.{first-found, first-read}
 
--- a unit has a byte, so the rest behind it is shorter
+-- a unit has a byte, so the rest after it is shorter
 pub front-some : (text : List ℕ) (o : Obu) → IsObu text o → 0 < length text
 front-some text o is = omega (arith, ap length is.laid_out)
 
@@ -132,7 +132,7 @@ begins-go text cut b is = by_others (obus_of cut.rest)
         ∙ ap (λ c. b || c) (sym (any_append one (filter is_kept os))
         ∙ ap begins_sequence (sym (filter-cons cut.obu os))))
 
--- units that can be sent: with an extension byte just where X is, and of a size that can be spelled
+-- units that can be sent: with an extension byte if and only if X is, and of a size that can be spelled
 abbrev pub AreSendable : List Obu → Type 0
 AreSendable [] = Unit {0}
 AreSendable (o ∷ os) = HasExtensionIf (has_extension o.header) o.extension × (length o.payload < payload_limit)

@@ -1,4 +1,4 @@
--- What makes sizes be read just where they are spelled.
+-- What makes sizes be read if and only if they are spelled.
 use Rattle.std.proofs.Common.{◌≡◌, ℕ, zero, suc, ◌+◌, ◌*◌, ◌%◌, ◌<◌, ◌≤◌, Bool, true, false, ltb, leb, List, [], ◌∷◌}
 use Rattle.std.proofs.Common.{◌++◌, take, drop, length, None, Some, Option, if◌then◌else◌, refl, sym, ap, subst, ◌∙◌}
 use Rattle.std.proofs.Common.{arith}
@@ -70,7 +70,7 @@ found_size zero text s is = absurd (cc)
 found_size (suc k) [] s is = absurd (cc)
 found_size (suc k) (b ∷ bs) s is = by_top k b bs s (ltb b 128) refl (λ t e. found_size k bs t e) is
 
--- a part behind its size is read
+-- a part after its size is read
 cut_there : (n : ℕ) (part rest : List ℕ) → length part ≡ n → cut_by (Some (record { size = n; rest = part ++ rest }))
     ≡ Some (record { part = part; rest = rest })
 cut_there n part rest long =

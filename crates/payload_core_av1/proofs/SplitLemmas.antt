@@ -22,7 +22,7 @@ pub glue-nil : (ts : List (List ℕ)) → glue [] ts ≡ ts
 glue-nil [] = refl
 glue-nil (t ∷ ts) = refl
 
--- the texts are whole ones, and those that are left behind the part that is open
+-- the texts are whole ones, and those that are left after the part that is open
 pub record IsSplit (p : List ℕ) (ts : List (List ℕ)) (y : Bool) (fs bs : List (List ℕ)) : Type 0 where
   pub whole : List (List ℕ)
   pub part : List ℕ

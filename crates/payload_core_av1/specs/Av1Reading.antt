@@ -89,7 +89,7 @@ joined_option None others = None
 joined_option (Some bytes) None = None
 joined_option (Some bytes) (Some others) = Some (bytes ++ others)
 
--- What complete elements give, one behind the other.
+-- What complete elements give, one after the other.
 abbrev pub all_given : List (List ℕ) → Option (List ℕ)
 all_given [] = Some []
 all_given (e ∷ es) = joined_option (given e) (all_given es)

@@ -29,7 +29,7 @@ fresh es = record { open_still = None; elements = es }
 abbrev pub beside : Fragment → List (List ℕ) → Begun
 beside fragment es = record { open_still = fragment; elements = es }
 
--- What such elements give where the last one opens a fragment or doesn't, and the fragment that is open then.
+-- What such elements give if the last one opens a fragment or doesn't, and the fragment that is open then.
 abbrev pub given_of : Bool → Begun → Option (List ℕ)
 given_of y b = all_given (complete y b.elements)
 

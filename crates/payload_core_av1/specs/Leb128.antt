@@ -24,7 +24,7 @@ pub record Spells (bytes : List ℕ) (n : ℕ) : Type 0 where
   pub top_bits : HasTopBits bytes
   pub value : n ≡ spelled bytes
 
--- What a size and the bytes behind its spelling are.
+-- What a size and the bytes after its spelling are.
 pub record Sized : Type 0 where
   pub size : ℕ
   pub rest : List ℕ
@@ -33,7 +33,7 @@ abbrev pub behind_byte : ℕ → Option Sized → Option Sized
 behind_byte b None = None
 behind_byte b (Some s) = Some (record { size = b % 128 + 128 * s.size; rest = s.rest })
 
--- The size that stands in front of a text, in at most so many bytes.
+-- The size that is in front of a text, in at most this many bytes.
 abbrev pub size_within : ℕ → List ℕ → Option Sized
 size_within zero bytes = None
 size_within (suc k) [] = None
@@ -52,7 +52,7 @@ spelling_within (suc k) n = if nat_lt n 128 then n ∷ [] else (128 + n % 128) �
 unfoldable pub spelling : ℕ → List ℕ
 spelling n = spelling_within 7 n
 
--- A part that stands in front of a text, and what stands behind it.
+-- A part that is in front of a text, and what follows it.
 pub record Cut : Type 0 where
   pub part : List ℕ
   pub rest : List ℕ

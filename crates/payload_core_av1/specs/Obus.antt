@@ -40,7 +40,7 @@ without_its_size o = without_size o.header ∷ (extension_bytes o.extension ++ o
 abbrev pub obu : ℕ → Option ℕ → List ℕ → Obu
 obu header extension payload = record { header = header; extension = extension; payload = payload }
 
--- The unit that stands in front of a text, and what stands behind it.
+-- The unit that is in front of a text, and what follows it.
 pub record ObuCut : Type 0 where
   pub obu : Obu
   pub rest : List ℕ

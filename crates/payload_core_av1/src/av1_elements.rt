@@ -32,7 +32,7 @@ fn counted_elements(alloc: Global, count: u8, body: &[u8]) -> Result<Vec<&[u8]>,
     Ok(elements)
 }
 
-/// Elements behind their sizes up to the end.
+/// Elements after their sizes up to the end.
 fn sized_elements(alloc: Global, body: &[u8]) -> Result<Vec<&[u8]>, PacketError>
     ensures value { IfOk result (λ es. sized_elements (length body.now) body.now ≡ Some (map (λ e. e.now) es.items)) }
     ensures refused { IfErr result (λ e. e ≢ PacketError.Memory → (e ≡ PacketError.ErrAv1CorruptedPacket)
@@ -101,7 +101,7 @@ fn give(element: &[u8], out: &mut Vec<u8>) -> Result<(), PacketError>
     Ok(())
 }
 
-/// Writes what complete elements give, one behind the other.
+/// Writes what complete elements give, one after the other.
 fn give_all(elements: &[&[u8]], out: &mut Vec<u8>) -> Result<(), PacketError>
     ensures given { IfOk result (λ _. Gathers out.old.items (all_given (map (λ e. e.now) elements.now)) out.new.items) }
     ensures kept { Keeps out.old.items out.new.items }
@@ -117,7 +117,7 @@ fn give_all(elements: &[&[u8]], out: &mut Vec<u8>) -> Result<(), PacketError>
     Ok(())
 }
 
-/// The fragment that an element opens, in the memory of an earlier one: none where it is empty.
+/// The fragment that an element opens, in the memory of an earlier one: none if it is empty.
 fn opened_by(
     alloc: Global,
     spare: &mut Vec<u8>,
@@ -177,7 +177,7 @@ pub fn give_and_open(
     Ok(opened)
 }
 
-/// Writes the unit that an open fragment is with an element behind it, if it is kept; the fragment stays as it was.
+/// Writes the unit that an open fragment is with an element after it, if it is kept; the fragment stays as it was.
 pub fn give_joined(
     fragment: &mut Vec<u8>,
     element: &[u8],

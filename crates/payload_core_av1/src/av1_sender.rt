@@ -43,7 +43,7 @@ fn fitting(place: usize, room: usize, len: usize) -> usize
     part
 }
 
-/// Takes a part of a text as the last element, unless it is empty, and puts back what is behind it.
+/// Takes a part of a text as the last element, unless it is empty, and puts back what is after it.
 fn cut_last<'a>(
     part: usize,
     text: &'a [u8],

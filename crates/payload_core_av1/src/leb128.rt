@@ -8,7 +8,7 @@ ghost use Rattle.payload_core_av1.specs.Bounds.{bound_of};
 
 use std::alloc::AllocError;
 
-/// The size that stands in front of a text in at most so many bytes, and what stands behind it.
+/// The size that is in front of a text in at most this many bytes, and what follows it.
 fn size_within(most: u8, text: &[u8]) -> Option<(usize, &[u8])>
     requires { most ≤ 8 }
     ensures value { MatchOption result (size_within most text.now ≡ None)
@@ -42,7 +42,7 @@ pub fn sized_part(text: &[u8]) -> Option<(&[u8], &[u8])>
     Some(rest.split_at(size))
 }
 
-/// Writes a size in its shortest form behind the bytes of `out`.
+/// Writes a size in its shortest form after the bytes of `out`.
 ///
 /// # Conditions
 ///
@@ -50,7 +50,7 @@ pub fn sized_part(text: &[u8]) -> Option<(&[u8], &[u8])>
 ///
 /// # Errors
 ///
-/// `AllocError` where memory runs out. A part of it may then stand behind the old bytes.
+/// `AllocError` if memory runs out. A part of it may then follow the old bytes.
 pub fn push_size(out: &mut Vec<u8>, size: usize) -> Result<(), AllocError>
     requires { size < size_limit }
     ensures written { IfOk result (λ _. out.new.items ≡ out.old.items ++ spelling size) }

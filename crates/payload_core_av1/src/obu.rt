@@ -20,9 +20,9 @@ const PAYLOAD_LIMIT: usize = 72_057_594_037_927_934;
 pub struct Obu<'a> {
     /// The byte of F, type, X, S and a reserved bit.
     pub header: u8,
-    /// The byte of temporal and spatial layer, where X is set.
+    /// The byte of temporal and spatial layer, if X is set.
     pub extension: Option<u8>,
-    /// What stands behind both and a size.
+    /// What follows both and a size.
     pub payload: &'a [u8],
 }
 
@@ -54,7 +54,7 @@ fn without_size(header: u8) -> u8
     if has_size(header) { header - 2 } else { header }
 }
 
-/// A payload and what stands behind it, if its size can be spelled.
+/// A payload and what follows it, if its size can be spelled.
 fn if_small<'a>(payload: &'a [u8], rest: &'a [u8]) -> Option<(&'a [u8], &'a [u8])>
     ensures value { MatchOption result (if_small (Some (record { part = payload.now; rest = rest.now })) ≡ None)
         (λ cut. if_small (Some (record { part = payload.now; rest = rest.now }))
@@ -69,7 +69,7 @@ fn if_small<'a>(payload: &'a [u8], rest: &'a [u8]) -> Option<(&'a [u8], &'a [u8]
     }
 }
 
-/// The payload that stands in front of a text, with S behind its size, and what stands behind it.
+/// The payload that is in front of a text, with S after its size, and what follows it.
 fn payload_in(has_size: bool, text: &[u8]) -> Option<(&[u8], &[u8])>
     ensures value { MatchOption result (payload_in has_size text.now ≡ None)
         (λ cut. payload_in has_size text.now ≡ Some (record { part = cut.0.now; rest = cut.1.now })) }
@@ -83,7 +83,7 @@ fn payload_in(has_size: bool, text: &[u8]) -> Option<(&[u8], &[u8])>
     if_small(payload, rest)
 }
 
-/// The unit of a header and an extension byte whose payload stands in front of a text, and what stands behind it.
+/// The unit of a header and an extension byte whose payload is in front of a text, and what follows it.
 fn obu_in_front(header: u8, extension: Option<u8>, text: &[u8]) -> Option<(Obu<'_>, &[u8])>
     ensures value { let cut = obu_of header extension (payload_in (has_size header) text.now) in
         MatchOption result (cut ≡ None)
@@ -102,7 +102,7 @@ fn obu_in_front(header: u8, extension: Option<u8>, text: &[u8]) -> Option<(Obu<'
     ))
 }
 
-/// The unit that stands in front of a text, and what stands behind it.
+/// The unit that is in front of a text, and what follows it.
 pub fn first_obu(text: &[u8]) -> Option<(Obu<'_>, &[u8])>
     ensures value { MatchOption result (first_obu text.now ≡ None)
         (λ cut. first_obu text.now ≡ Some (obu_cut cut.0.header cut.0.extension cut.0.payload.now cut.1.now)) }
@@ -147,8 +147,8 @@ impl Obu<'_> {
         !matches!(self.header / 8 % 16, 2 | 8 | 15)
     }
 
-    /// Writes the unit with S and its size in the shortest form. Where memory runs out, a part of it may stand
-    /// behind the old bytes.
+    /// Writes the unit with S and its size in the shortest form. If memory runs out, a part of it may be
+    /// after the old bytes.
     ///
     /// # Conditions
     ///
@@ -156,7 +156,7 @@ impl Obu<'_> {
     ///
     /// # Errors
     ///
-    /// `AllocError` where memory runs out.
+    /// `AllocError` if memory runs out.
     pub fn push_with_size(&self, out: &mut Vec<u8>) -> Result<(), AllocError>
         requires { length self.now.payload.now < payload_limit }
         ensures written { IfOk result (λ _. out.new.items ≡ out.old.items
@@ -180,7 +180,7 @@ impl Obu<'_> {
     ///
     /// # Errors
     ///
-    /// `AllocError` where memory runs out.
+    /// `AllocError` if memory runs out.
     pub fn without_its_size(&self, alloc: Global) -> Result<Vec<u8>, AllocError>
         ensures { IfOk result (λ v. v.items
             ≡ without_its_size (obu self.now.header self.now.extension self.now.payload.now)) }

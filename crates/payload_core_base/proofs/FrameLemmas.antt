@@ -50,7 +50,7 @@ whole-frames packing format units_of (p ∷ ps) each = (
   whole-frames packing format units_of ps (All-tail (λ p. IsWhole format p (units_of p)) p ps each),
 )
 
--- where the marker is that of the last packet, and the tail that of the marker
+-- if the marker is that of the last packet, and the tail that of the marker
 pub record TailsAtMarker (packing : Packing) (format : Format) : Type 0 where
   pub marks : (p : List ℕ) (last : Bool) → packing.marks p last ≡ last
   pub tail : (marker : Bool) (p : List ℕ) → format.tail marker p ≡ marker

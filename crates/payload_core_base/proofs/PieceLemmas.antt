@@ -58,7 +58,7 @@ pieces_from limit text a (suc n) =
     ap (λ p. p ∷ map (piece_at limit text) (range_with_len (a + 1 + 1) n)) (piece_behind limit text a)
     ∙ ap (λ ps. piece_at limit (drop limit text) a ∷ ps) (pieces_from limit text (a + 1) n)
 
--- the first piece is what the limit takes, and the others are the pieces of what is behind it
+-- the first piece is what the limit takes, and the others are the pieces of what is after it
 pub pieces-step : (limit : ℕ) (text : List ℕ) → 0 < limit → 0 < length text → pieces limit text ≡ take limit text
     ∷ pieces limit (drop limit text)
 unfolding pieces
@@ -146,7 +146,7 @@ module _ (limit : ℕ) (some_limit : 0 < limit) where
   pub pieces-full : (text : List ℕ) → AreFull limit (pieces limit text)
   pieces-full text = full_within (length text) text (omega arith)
 
--- cut from the front: a piece of the limit's size, or of what is left, and the pieces of what is behind it
+-- cut from the front: a piece of the limit's size, or of what is left, and the pieces of what is after it
 pub pieces-next : (limit : ℕ) (text piece rest : List ℕ) → 0 < limit → 0 < length text → text ≡ piece ++ rest
     → length piece ≡ min limit (length text) → pieces limit text ≡ piece ∷ pieces limit rest
 pieces-next limit text piece rest some_limit some_byte parts size = elim (cases_lt (length text) limit) [

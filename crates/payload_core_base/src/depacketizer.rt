@@ -24,10 +24,10 @@ pub trait Depacketizer {
         None
     }
 
-    /// Reads a packet: writes its bytes behind those of `out`, and tells what it knows in `extra`.
+    /// Reads a packet: writes its bytes after those of `out`, and tells what it knows in `extra`.
     ///
     /// # Errors
-    /// Why the format refuses the packet, or `Memory`, which comes only where `out` or the fragment could not grow.
+    /// Why the format refuses the packet, or `Memory`, which comes only if `out` or the fragment could not grow.
     /// Either changes neither the depacketizer nor `out` nor `extra`.
     fn depacketize(
         &mut self,

@@ -20,7 +20,7 @@ pub trait Packetizer {
     /// The payloads of a sample, each of at most `mtu` bytes, in order. An empty sample has none.
     ///
     /// # Errors
-    /// Why the format can't carry the sample, or `Memory`, where a payload or their list could not grow. Either changes
+    /// Why the format can't carry the sample, or `Memory`, if a payload or their list could not grow. Either changes
     /// nothing.
     fn packetize(
         &mut self,

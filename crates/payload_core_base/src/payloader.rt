@@ -80,7 +80,7 @@ impl<P: Packetizer> Payloader<P> {
     /// markers, the RTP time and the values.
     ///
     /// # Errors
-    /// Why the packetizer refuses the sample, which sends nothing and changes nothing; or `Memory`, where either that
+    /// Why the packetizer refuses the sample, which sends nothing and changes nothing; or `Memory`, if either that
     /// holds, or the sink took the first packets of the sample alone.
     pub fn push_sample<S: PacketSink>(
         &mut self,

@@ -38,7 +38,7 @@ kept b p ps e = sym (ap (λ (x : Bool). cond x (p ∷ ps) ps) e)
 gone : (b : Bool) (p : Packet) (ps : List Packet) → b ≡ false → ps ≡ cond b (p ∷ ps) ps
 gone b p ps e = sym (ap (λ (x : Bool). cond x (p ∷ ps) ps) e)
 
--- the packets above a number are those behind the ones up to it
+-- the packets above a number are those after the ones up to it
 pub dropped : (hs : List Held) (count number : ℕ)
     → ((k : ℕ) → k < count → k < length hs → (slot_at hs k).meta.seq_no ≤ number)
     → ((k : ℕ) → count ≤ k → k < length hs → number < (slot_at hs k).meta.seq_no)

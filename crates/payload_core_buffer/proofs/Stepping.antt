@@ -81,7 +81,7 @@ pub pops-none : (format : Format) (hold_back : ℕ) (s t : PopState)
     → AnswersBy (pop_step format hold_back s) t (Some (Ok None))
 pops-none format hold_back s t due same = pops-due format hold_back s t None (Some (Ok None)) due (refl, same)
 
--- behind an answer fewer packets are held
+-- after an answer fewer packets are held
 something : (o : Option PacketError) (run : Run) (metas : List Packet)
     → answer_by o (metas_of metas) run.written run.extra ≢ Ok None
 something None run metas h = cc

@@ -27,7 +27,7 @@ use Rattle.payload_core_vpx.proofs.PatchWrites.{key-there, key-tid_and_y, key-un
 use Rattle.payload_core_vpx.proofs.PatchWrites.{length-tl0, long-there, long-undone, short-there, short-undone}
 use Rattle.payload_core_vpx.proofs.PatchWrites.{tl0-key, tl0-other, tl0-there, tl0-undone}
 
--- where the ids stand in a payload of a shape, and that there is room for them
+-- if the ids are in a payload of a shape, and that there is room for them
 pub record Placed (s : Shape) (size : ℕ) : Type 0 where
   pub id_end : 2 ≤ picture_id_end s.is_long
   pub behind_id : s.has_picture_id ≡ true → picture_id_end s.is_long < tl0_place s
@@ -240,7 +240,7 @@ extended_stays p x q zero_is one_is two_is =
     ∙ same_shape (slice_index p 1) (has_bit 128 (slice_index q 2)) (has_bit 128 (slice_index p 2))
     (λ has. ap (λ n. eqb (n % 2) 1) (two_is has))
 
--- K announces the byte that KEYIDX stands in
+-- K announces the byte that KEYIDX is in
 key_byte : (n : ℕ) (t k : Bool) → k ≡ true → n < n + (if t || k then 1 else 0)
 key_byte n true k e = omega arith
 key_byte n false true e = omega arith

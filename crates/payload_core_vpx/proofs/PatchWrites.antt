@@ -111,7 +111,7 @@ pub key-there : (k v : ℕ) (p : List ℕ) → k < length p → slice_index (wit
     ≡ with_low 32 v (slice_index p k)
 key-there k v p lt = get_or-set_same p k (with_low 32 v (slice_index p k)) 0 lt
 
--- what stands behind stays
+-- what follows stays
 pub drop-id : (n : ℕ) (long : Bool) (o : Option ℕ) (p : List ℕ)
     → ForSome o (λ _. (2 < n) × (picture_id_end long < n)) → drop n (with_picture_id long o p) ≡ drop n p
 drop-id n long None p before = refl

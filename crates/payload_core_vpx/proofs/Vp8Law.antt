@@ -53,7 +53,7 @@ under id e =
 over : (id : ℕ) → id < 32768 → has_bit 128 (128 + id / 256) ≡ true
 over id small = let e : (128 + id / 256) / 128 % 2 ≡ 1 = omega arith in eq-eqb _ _ e
 
--- a descriptor that was sent, with a byte behind it, is read, and its payload written
+-- a descriptor that was sent, with a byte after it, is read, and its payload written
 gives_payload : (tells : Bool) (id : ℕ) (first : Bool) (b : ℕ) (bs : List ℕ) (extra : CodecExtra) → id < 32768
     → GivesBytes (vp8_format.read None extra (descriptor tells id first ++ (b ∷ bs))) (b ∷ bs)
 gives_payload false id true b bs extra small = (refl, refl)
@@ -119,7 +119,7 @@ payloads_marked : (has_id zero_id : Bool) (ps : List (List ℕ))
 payloads_marked has_id zero_id [] = refl
 payloads_marked has_id zero_id (p ∷ ps) = ap (λ qs. p ∷ qs) (payloads_marked has_id zero_id ps)
 
--- behind their descriptors the pieces fit the limit
+-- after their descriptors the pieces fit the limit
 described_within : (tells : Bool) (id : ℕ) (first : Bool) (limit : ℕ) (ps : List (List ℕ))
     → descriptor_size tells id < limit → All (λ p. (0 < length p) × (length p ≤ limit - descriptor_size tells id))
     ps → AreWithin limit (described tells id first ps)

@@ -27,7 +27,7 @@ use Rattle.payload_core_vpx.specs.Vp9Descriptor.{has_f, has_i, has_l, has_p, has
 use Rattle.payload_core_vpx.specs.Vp9Layout.{AreLayers, AreReferences, IsPictureId, IsStructure, IsVp9Packet}
 use Rattle.payload_core_vpx.proofs.Vp9LayoutLaw.{layout_law}
 
--- no piece is left exactly where no byte is
+-- no piece is left if and only if no byte is
 pub none_left-pieces : (size : ℕ) (text : List ℕ) → 0 < size → is_none_left (pieces size text) ≡ eqb (length text) 0
 none_left-pieces size [] some_size = ap is_none_left (pieces-empty size)
 none_left-pieces size (b ∷ bs) some_size =
@@ -78,7 +78,7 @@ laid_out told id first last b bs small = by_flags told first last
     by_flags false false true = laid_with 148 id [] b bs small refl refl refl tt
     by_flags false false false = laid_with 144 id [] b bs small refl refl refl tt
 
--- a descriptor that was sent, with a byte behind it, is read, and its payload written
+-- a descriptor that was sent, with a byte after it, is read, and its payload written
 gives_payload : (told : Bool) (id : ℕ) (first last : Bool) (b : ℕ) (bs : List ℕ) (extra : CodecExtra) → id < 32768
     → GivesBytes (vp9_format.read None extra (descriptor told id first last ++ (b ∷ bs))) (b ∷ bs)
 gives_payload told id first last b bs extra small =
@@ -128,7 +128,7 @@ size_is : (told : Bool) (id : ℕ) (first last : Bool) (p : List ℕ)
 size_is true id first last p = omega arith
 size_is false id first last p = omega arith
 
--- behind their descriptors the pieces fit the limit
+-- after their descriptors the pieces fit the limit
 described_within : (told : Bool) (id : ℕ) (first : Bool) (limit : ℕ) (ps : List (List ℕ)) → descriptor_size told < limit
     → All (λ p. (0 < length p) × (length p ≤ limit - descriptor_size told)) ps
     → AreWithin limit (described told id first ps)

@@ -108,7 +108,7 @@ reading_some : (fragment : Fragment) (id : Option ℕ) (payload : List ℕ) → 
 reading_some fragment id [] some = absurd (omega arith)
 reading_some fragment id (b ∷ bs) some = refl
 
--- behind the picture id and the layers stand the references
+-- after the picture id and the layers are the references
 pub referring_is : (first : ℕ) (id : Option ℕ) (picture_id layers referring : List ℕ)
     → IsPictureId (has_i first) picture_id id → AreLayers (has_l first) (has_f first) layers
     → references_of first (picture_id ++ (layers ++ referring)) ≡ referring

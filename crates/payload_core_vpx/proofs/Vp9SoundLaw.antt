@@ -19,7 +19,7 @@ use Rattle.payload_core_vpx.proofs.Vp9LayoutLaw.{referring_is}
 use Rattle.payload_core_vpx.specs.Vp9Layout.{AreLayers, ArePictures, AreReferences, IsGroup, IsPictureId, IsStructure}
 use Rattle.payload_core_vpx.specs.Vp9Layout.{ListsFour, ReadLaw, TooManyLaw}
 
--- behind so many bytes there are others, so these are there
+-- after this many bytes there are others, so these are there
 long_enough : (n : ℕ) (text : List ℕ) → 0 < length (drop n text) → n < length text
 long_enough n text some = omega (arith, some, length-drop n text)
 
@@ -74,7 +74,7 @@ references_taken true (a ∷ bs) long few = by_first (has_bit 1 a) refl bs long 
         by_second true e' [] lt q = absurd (omega arith)
         by_second true e' (c ∷ ds) lt q = (e, e', q)
 
--- what stands behind pictures is no longer than they are with it
+-- what follows pictures is no longer than they are with it
 pictures_short : (n : ℕ) (text : List ℕ) → length (behind_pictures n text) ≤ length text
 pictures_short zero text = omega arith
 pictures_short (suc n) text =
@@ -84,7 +84,7 @@ pictures_short (suc n) text =
 drop_one_more : (x h : ℕ) (text : List ℕ) → drop (1 + x) (h ∷ text) ≡ drop x text
 drop_one_more x h text = let next : 1 + x ≡ suc x = omega arith in ap (λ n. drop n (h ∷ text)) next
 
--- a text is its first part and what stands behind it
+-- a text is its first part and what follows it
 abbrev Parts : (List ℕ → Type 0) → List ℕ → List ℕ → Type 0
 Parts P text rest = (bytes : List ℕ) × (text ≡ bytes ++ rest) × P bytes
 

@@ -40,7 +40,7 @@ picture_id_size s = if s.has_picture_id then (if s.is_long then 2 else 1) else 0
 abbrev pub tl0_place : Shape → ℕ
 tl0_place s = 2 + picture_id_size s
 
--- TID, Y and KEYIDX share the byte behind it.
+-- TID, Y and KEYIDX share the byte after it.
 abbrev pub key_place : Shape → ℕ
 key_place s = tl0_place s + (if s.has_tl0_pic_idx then 1 else 0)
 
@@ -48,7 +48,7 @@ key_place s = tl0_place s + (if s.has_tl0_pic_idx then 1 else 0)
 abbrev pub layout_size : Shape → ℕ
 layout_size s = if s.is_extended then key_place s + (if s.has_key_byte then 1 else 0) else 1
 
--- A picture id of 15 bits behind M, or of 7 bits.
+-- A picture id of 15 bits after M, or of 7 bits.
 abbrev pub picture_id_in : Shape → List ℕ → Option ℕ
 picture_id_in s p =
     if s.has_picture_id then (if s.is_long then Some (slice_index p 2 % 128 * 256 + slice_index p 3)

@@ -49,7 +49,7 @@ patch_of b = record { shape = b.shape; picture_id = b.picture_id; tl0_pic_idx = 
 abbrev pub with_low : ℕ → ℕ → ℕ → ℕ
 with_low weight value byte = byte / weight * weight + value % weight
 
--- The picture id in the seven bits behind M, or in these and the next byte.
+-- The picture id in the seven bits after M, or in these and the next byte.
 abbrev pub with_picture_id : Bool → Option ℕ → List ℕ → List ℕ
 with_picture_id long None p = p
 with_picture_id false (Some id) p = slice_set p 2 (with_low 128 id (slice_index p 2))

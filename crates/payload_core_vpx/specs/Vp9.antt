@@ -20,7 +20,7 @@ descriptor told id first last =
 abbrev pub descriptor_size : Bool → ℕ
 descriptor_size told = if told then 4 else 3
 
--- The pieces of a frame behind their descriptors.
+-- The pieces of a frame after their descriptors.
 abbrev pub described : Bool → ℕ → Bool → List (List ℕ) → List (List ℕ)
 described told id first [] = []
 described told id first (p ∷ ps) = (descriptor told id first (is_none_left ps) ++ p) ∷ described told id false ps
@@ -73,7 +73,7 @@ vp9_coding prediction = record {
   after = vp9_after prediction;
 }
 
--- At a limit that leaves room behind each descriptor the units are the same, told or not.
+-- At a limit that leaves room after each descriptor the units are the same, told or not.
 abbrev pub SameUnits : Type 0
 SameUnits = (prediction : Bool) (s : Sender) (limit : ℕ) (sample : List ℕ) → 4 < limit
     → vp9_units prediction s limit sample ≡ vp9_units false s limit sample

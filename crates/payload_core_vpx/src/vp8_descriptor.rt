@@ -25,7 +25,7 @@ pub enum Vp8DescriptorError {
 /// Which fields a descriptor has.
 #[derive(Clone, Copy, Debug, PartialEq, Eq, Drop)]
 pub struct Shape {
-    /// X: a byte of flags stands second.
+    /// X: a byte of flags is second.
     pub is_extended: bool,
     /// I: a picture id.
     pub has_picture_id: bool,
@@ -81,7 +81,7 @@ impl Shape {
         }
     }
 
-    /// Where TL0PICIDX stands, if it is there.
+    /// Where TL0PICIDX is, if it is there.
     pub(crate) fn tl0_place(self) -> usize
         ensures value { result ≡ tl0_place self }
         ensures few { result ≤ 4 }
@@ -89,7 +89,7 @@ impl Shape {
         2 + self.picture_id_size()
     }
 
-    /// Where KEYIDX stands, if it is there.
+    /// Where KEYIDX is, if it is there.
     pub(crate) fn key_place(self) -> usize
         ensures value { result ≡ key_place self }
         ensures few { result ≤ 5 }
@@ -170,7 +170,7 @@ impl Vp8Descriptor {
     /// The descriptor of a payload (RFC 7741 4.2).
     ///
     /// # Errors
-    /// `ShortPayload` where there is no byte, `MalformedDescriptor` where it passes the end or nothing stands behind
+    /// `ShortPayload` if there is no byte, `MalformedDescriptor` if it passes the end or nothing follows
     /// it.
     pub fn parse(payload: &[u8]) -> Result<Self, Vp8DescriptorError>
         ensures { result ≡ parsed payload.now }
@@ -185,21 +185,21 @@ impl Vp8Descriptor {
         Ok(described_in(shape, payload))
     }
 
-    /// The picture id, of 7 or 15 bits, where the descriptor has one.
+    /// The picture id, of 7 or 15 bits, if the descriptor has one.
     pub fn picture_id(&self) -> Option<u16>
         ensures { result ≡ self.now.picture_id }
     {
         self.picture_id
     }
 
-    /// The index of the temporal base layer frame (TL0PICIDX), where the descriptor has one.
+    /// The index of the temporal base layer frame (TL0PICIDX), if the descriptor has one.
     pub fn tl0_pic_idx(&self) -> Option<u8>
         ensures { result ≡ self.now.tl0_pic_idx }
     {
         self.tl0_pic_idx
     }
 
-    /// The index of the temporal keyframe (KEYIDX), 0 to 31, where the descriptor has one.
+    /// The index of the temporal keyframe (KEYIDX), 0 to 31, if the descriptor has one.
     pub fn key_idx(&self) -> Option<u8>
         ensures { result ≡ self.now.key_idx }
     {
@@ -215,7 +215,7 @@ impl Vp8Descriptor {
         self.begins_frame && begins_keyframe(behind(payload, self.shape.layout_size()))
     }
 
-    /// What stands behind the descriptor.
+    /// What follows the descriptor.
     pub(crate) fn frame_of<'a>(&self, payload: &'a [u8]) -> &'a [u8]
         ensures { result.now ≡ drop (layout_size self.now.shape) payload.now }
     {

@@ -183,7 +183,7 @@ fn put_tl0_pic_idx(out: &mut [u8], place: usize, index: Option<u8>)
     }
 }
 
-/// Writes a KEYIDX behind the TID and Y at its place.
+/// Writes a KEYIDX after the TID and Y at its place.
 fn put_key_idx(out: &mut [u8], place: usize, index: Option<u8>)
     requires { ForSome index (λ _. place < length out.old) }
     ensures { out.new ≡ with_key_idx place index out.old }

@@ -36,7 +36,7 @@ fn descriptor_size(tells: bool, id: u16) -> usize
     }
 }
 
-/// The descriptor of a packet, and its piece behind it.
+/// The descriptor of a packet, and its piece after it.
 fn packet(
     alloc: Global,
     tells: bool,

@@ -35,7 +35,7 @@ impl Vp9Depacketizer {
     }
 }
 
-/// How many bytes the picture id has that stands at the front, where I is set: two with M.
+/// How many bytes the picture id has that is at the front, if I is set: two with M.
 fn picture_id_size(first: u8, text: &[u8]) -> usize
     ensures value { result ≡ picture_id_size first text.now }
     ensures few { result ≤ 2 }
@@ -49,7 +49,7 @@ fn picture_id_size(first: u8, text: &[u8]) -> usize
     }
 }
 
-/// The picture id that stands at the front, where I is set.
+/// The picture id that is at the front, if I is set.
 fn picture_id_of(first: u8, text: &[u8]) -> Option<u16>
     ensures { result ≡ picture_id_of first text.now }
 {
@@ -63,7 +63,7 @@ fn picture_id_of(first: u8, text: &[u8]) -> Option<u16>
     }
 }
 
-/// How many bytes tell the layers, where L is set: TL0PICIDX stands there without F alone.
+/// How many bytes tell the layers, if L is set: TL0PICIDX is there without F alone.
 fn layers_size(first: u8) -> usize
     ensures value { result ≡ layers_size first }
     ensures few { result ≤ 2 }
@@ -77,7 +77,7 @@ fn layers_size(first: u8) -> usize
     }
 }
 
-/// How many references stand at the front, where P and F are set: one more behind each with N, and three at most.
+/// How many references are at the front, if P and F are set: one more after each with N, and three at most.
 fn references_size(first: u8, text: &[u8]) -> usize
     ensures value { result ≡ references_size first text.now }
     ensures few { result ≤ 3 }
@@ -108,7 +108,7 @@ fn picture_size(byte: u8) -> usize
     1 + usize::from(byte / 4 % 4)
 }
 
-/// What stands behind the pictures of a picture group.
+/// What follows the pictures of a picture group.
 fn behind_pictures(count: u8, text: &[u8]) -> &[u8]
     ensures { result.now ≡ behind_pictures count text.now }
 {
@@ -119,7 +119,7 @@ fn behind_pictures(count: u8, text: &[u8]) -> &[u8]
     rest
 }
 
-/// What stands behind the scalability structure, where V is set.
+/// What follows the scalability structure, if V is set.
 fn behind_structure(first: u8, text: &[u8]) -> &[u8]
     ensures { result.now ≡ behind_structure first text.now }
 {
@@ -150,7 +150,7 @@ fn references_of(first: u8, rest: &[u8]) -> &[u8]
     )
 }
 
-/// What stands behind the descriptor.
+/// What follows the descriptor.
 fn payload_of(first: u8, rest: &[u8]) -> &[u8]
     ensures { result.now ≡ payload_of first rest.now }
 {

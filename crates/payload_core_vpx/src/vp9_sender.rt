@@ -39,7 +39,7 @@ fn is_predicted(frame: &[u8]) -> bool
     has_marker && bits != 0
 }
 
-/// How many bytes the descriptor has that is sent: flags, a picture id of 15 bits, and a reference where the frame is
+/// How many bytes the descriptor has that is sent: flags, a picture id of 15 bits, and a reference if the frame is
 /// told to be predicted.
 fn descriptor_size(told: bool) -> usize
     ensures value { result ≡ descriptor_size told }
@@ -48,7 +48,7 @@ fn descriptor_size(told: bool) -> usize
     if told { 4 } else { 3 }
 }
 
-/// The descriptor of a packet, and its piece behind it.
+/// The descriptor of a packet, and its piece after it.
 fn packet(
     alloc: Global,
     told: bool,

@@ -51,14 +51,14 @@ impl Format {
         format
     }
 
-    /// A depacketizer with no open fragment, where the codec has one.
+    /// A depacketizer with no open fragment, if the codec has one.
     pub(crate) fn depacketizer(&self, alloc: Global) -> Option<CodecDepacketizer<NotBoxed>> {
         let mut depacketizer = CodecDepacketizer::<NotBoxed>::new(alloc, self.codec)?;
         depacketizer.configure_for(self.octet_align, self.max_don_diff, self.clock_rate);
         Some(depacketizer)
     }
 
-    /// A packetizer that sent nothing, where the codec has one.
+    /// A packetizer that sent nothing, if the codec has one.
     pub(crate) fn packetizer(&self) -> Option<CodecPacketizer<NotBoxed>> {
         let picture_id = match self.picture_id {
             Some(id) if id < 32768 => Some(id),

@@ -7,7 +7,7 @@ use std::fmt::Debug;
 use words_and_replies::CommandLine;
 
 /// `profile CODEC VALUE ..`: what a codec's values mean, of H.264 a profile-level-id in hexadecimal, of the others a
-/// profile-id, a tier-flag and a level-id, where a dash stands for one that isn't given.
+/// profile-id, a tier-flag and a level-id, if a dash stands for one that isn't given.
 pub(crate) fn profile(line: &mut CommandLine<'_>) {
     match line.word() {
         "H264" => {

@@ -67,7 +67,7 @@ fn block_of(line: &mut CommandLine<'_>, word: &str) -> RedundantBlock {
     }
 }
 
-/// `write TYPE PAYLOAD BLOCK ..`: the packet of a primary payload behind blocks.
+/// `write TYPE PAYLOAD BLOCK ..`: the packet of a primary payload after blocks.
 fn written(line: &mut CommandLine<'_>) {
     let pt = line.number::<u8>();
     let payload = line.bytes();
@@ -82,7 +82,7 @@ fn written(line: &mut CommandLine<'_>) {
     }
 }
 
-/// The blocks of a packet, each as `write` reads it, and a star behind the primary payload.
+/// The blocks of a packet, each as `write` reads it, and a star after the primary payload.
 fn read(line: &mut CommandLine<'_>) {
     let packet = line.bytes();
     match RedDecoder::decode(&packet) {

@@ -31,7 +31,7 @@ pub(crate) fn keyframe(line: &mut CommandLine<'_>, codec: Codec) {
     })
 }
 
-/// Payloads, parted by blanks, and a star behind each that has the marker; a dash stands for none.
+/// Payloads, parted by blanks, and a star after each that has the marker; a dash stands for none.
 fn put_payloads(line: &mut CommandLine<'_>, packets: &[SentPacket]) {
     line.put_where(packets.is_empty(), "- ");
     for sent in packets {
@@ -83,7 +83,7 @@ fn read_all(
     Ok(())
 }
 
-/// `push NUMBER TIME PACKET`: the packet is held, with the marker where a star stands behind it.
+/// `push NUMBER TIME PACKET`: the packet is held, with the marker if a star follows it.
 pub(crate) fn pushed(line: &mut CommandLine<'_>, formats: &mut Formats) {
     let meta = RtpMeta {
         seq_no: SeqNo::from(line.number::<u64>()),

@@ -3,7 +3,7 @@
 use payload_core::{Vp8Descriptor, Vp8Patch};
 use words_and_replies::{CommandLine, part};
 
-// A payload of so many bytes reaches each id that a descriptor can have.
+// A payload of this many bytes reaches each id that a descriptor can have.
 const REACHES_IDS: usize = 6;
 
 /// What `read PAYLOAD` and `patch PAYLOAD [id=N] [tl0=N] [key=N]` give: the picture id, TL0PICIDX and KEYIDX of a

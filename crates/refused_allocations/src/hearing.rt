@@ -1,4 +1,4 @@
-//! Datagrams at a fixed end: as one list, drained behind a gap, and polled out.
+//! Datagrams at a fixed end: as one list, drained after a gap, and polled out.
 
 use crate::asking::{TIMES, print_refused};
 use rtp_media::{
@@ -8,7 +8,7 @@ use rtp_media::{
 use rtp_wire::{Mid, Pt, Ssrc};
 use std::alloc::{AllocError, Global};
 
-/// The numbers of the datagrams, the second before the first, and one behind a gap.
+/// The numbers of the datagrams, the second before the first, and one after a gap.
 const NUMBERS: [u8; 4] = [1, 0, 2, 4];
 
 /// Datagrams of SSRC 44 and type 111, of time 0, whose payload is the number.

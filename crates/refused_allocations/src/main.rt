@@ -15,7 +15,7 @@ mod texts;
 use std::env;
 use std::process::ExitCode;
 
-/// Status 1 where a call is refused for another reason, or again.
+/// Status 1 if a call is refused for another reason, or again.
 fn main(rt: HostRuntime) -> ExitCode {
     let done = if wants_streams(&rt) {
         runs::print_runs(&rt)

@@ -38,7 +38,7 @@ fn own_rows(alloc: Global) -> Result<CodecConfig, AllocError> {
     Ok(config)
 }
 
-/// The round of worked row 19 against Opus at 109, where the other end dictates the type and where it only sends, on
+/// The round of worked row 19 against Opus at 109, if the other end dictates the type and where it only sends, on
 /// the same rows: the first is refused and changes nothing.
 pub(crate) fn print_rounds(rt: &HostRuntime) -> Option<()> {
     let mut own = built_rows(rt)?;
@@ -75,7 +75,7 @@ fn print_round(rt: &HostRuntime, own: &mut CodecConfig, dir: Direction) -> Optio
     None
 }
 
-/// The rows as they stand, on one line: also behind a refusal, which changes none.
+/// The rows as they are, on one line: also after a refusal, which changes none.
 fn print_rows(rt: &HostRuntime, own: &CodecConfig) {
     let _ = print!(*rt; "rows");
     for row in own.params() {

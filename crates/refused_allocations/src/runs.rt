@@ -44,7 +44,7 @@ fn ran(
     (result, sink.taken)
 }
 
-/// Prints how each kind of run went; none where one went otherwise than it must.
+/// Prints how each kind of run went; none if one went otherwise than it must.
 pub(crate) fn print_runs(rt: &HostRuntime) -> Option<()> {
     let alloc = rt.alloc();
     let text = lines(alloc).ok()?;

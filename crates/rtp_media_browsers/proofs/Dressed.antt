@@ -39,7 +39,7 @@ unfolding is_transport transport_lines
 transport_are t =
     gathering_are t.gathering (line.Fingerprint t.fingerprint ∷ line.Setup t.setup ∷ line.RtcpMux ∷ []) refl
 
--- lines behind an attribute that are there or not
+-- lines after an attribute that are there or not
 abbrev maybe_lines : Transport → Bool → List MediaAttribute
 maybe_lines t b = cond b (transport_lines t) []
 

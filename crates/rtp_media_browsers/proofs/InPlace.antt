@@ -1,4 +1,4 @@
--- Sections that stand at their places.
+-- Sections that are at their places.
 use Rattle.std.proofs.Common.{◌≡◌, ◌∙◌, ap, sym, refl, subst, ℕ, suc, zero, true, List, [], ◌∷◌, ◌++◌, Option}
 use Rattle.std.proofs.Common.{None, Some, slice_get, drop, filter, length}
 use Rattle.std.proofs.lemmas.Bool.{cond_both}
@@ -27,13 +27,13 @@ nothing_at p h = cc
 same_place : (p q : Place) → Some p ≡ Some q → p ≡ q
 same_place p q h = cc
 
--- what stands at a place, by its kind
+-- what is at a place, by its kind
 abbrev StandsAt : List MediaLine → Place → Option MediaLine → Type 0
 StandsAt ms (Taken r) o = o ≡ Some r
 StandsAt ms (Kept name) o = o ≡ section_named ms name
 
 module _ (ms rest : List MediaLine) where
-  -- one section stands at a place whose name is found
+  -- one section is at a place whose name is found
   one_at : (p : Place) → is_found (mids_of ms) p ≡ true → (m : MediaLine) × (at_place ms p ≡ m ∷ [])
   unfolding at_place is_found
   one_at (Taken r) h = (r, refl)

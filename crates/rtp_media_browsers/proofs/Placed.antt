@@ -17,7 +17,7 @@ abbrev pub AreUsed : List MediaLine → Type 0
 AreUsed [] = Unit {0}
 AreUsed (m ∷ ms) = IsUsed m × AreUsed ms
 
--- the wishes from one on accept so many sections
+-- the wishes from one on accept this many sections
 abbrev pub Accepts : List Wish → ℕ → ℕ → Type 0
 Accepts wishes n count = (k : ℕ) → n ≤ k → k < n + count → is_accepted (slice_get wishes k) ≡ true
 

@@ -26,7 +26,7 @@ unfolding is_session_transport
 lite_goes true = refl
 lite_goes false = refl
 
--- lines that go leave nothing behind others
+-- lines that go leave nothing after others
 goes : (xs ys : List SessionAttribute) → filter stays_in_session ys ≡ []
     → filter stays_in_session (xs ++ ys) ≡ filter stays_in_session xs
 goes xs ys h =

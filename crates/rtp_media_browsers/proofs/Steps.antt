@@ -27,7 +27,7 @@ one_left (Taken r) ps m ms = refl
 past_left : (ms : List MediaLine) (m : MediaLine) → left [] (m ∷ ms) ≡ left_at None m ++ left [] ms
 past_left ms m = refl
 
--- what is left of a section and of those behind it
+-- what is left of a section and of those after it
 pub left_step : (ps : List Place) (n : ℕ) (m : MediaLine) (ms : List MediaLine)
     → left (drop n ps) (m ∷ ms) ≡ left_at (slice_get ps n) m ++ left (drop (suc n) ps) ms
 left_step ps n m ms = elim (slice_get_cases ps n).1 [
@@ -46,7 +46,7 @@ pub nothing_left : (ps : List Place) → left ps [] ≡ []
 nothing_left [] = refl
 nothing_left (p ∷ ps) = refl
 
--- the places of a section and of those behind it
+-- the places of a section and of those after it
 pub places_step : (bundle : List (List ℕ)) (wishes : List Wish) (n : ℕ) (ms : List MediaLine) (m : MediaLine)
     → n < length ms → m ≡ get_or ms n m
     → places_from bundle wishes n (drop n ms)
@@ -65,7 +65,7 @@ past_answered : (ms : List MediaLine) (m : MediaLine)
     → answered_places [] (m ∷ ms) ≡ answered_or_new None m ∷ answered_places [] ms
 past_answered ms m = refl
 
--- the places of a section of an answer and of those behind it
+-- the places of a section of an answer and of those after it
 pub answered_step : (ps : List Place) (n : ℕ) (m : MediaLine) (ms : List MediaLine)
     → answered_places (drop n ps) (m ∷ ms) ≡ answered_or_new (slice_get ps n) m ∷ answered_places (drop (suc n) ps) ms
 answered_step ps n m ms = elim (slice_get_cases ps n).1 [
@@ -107,7 +107,7 @@ number_step mid n ps p within is =
     ap (number_from mid n) (drop-cons ps n p within ∙ ap (λ (x : Place). x ∷ drop (suc n) ps) (sym is))
     ∙ (λ i. cond (is_place_of mid p) (Some n) (number_from mid (sym (add-one n) i) (drop (sym (add-one n) i) ps)))
 
--- one step of a loop that puts values behind others
+-- one step of a loop that puts values after others
 pub one_more : {A : Type 0} (old new xs ys tail whole all : List A) → new ≡ old ++ xs → xs ≡ ys → whole ≡ ys ++ tail
     → old ++ whole ≡ all → new ++ tail ≡ all
 one_more old new xs ys tail whole all pushed same behind kept =
@@ -116,7 +116,7 @@ one_more old new xs ys tail whole all pushed same behind kept =
     ∙ ap (λ (l : List _). old ++ l) (sym behind)
     ∙ kept
 
--- what is looked up is what stands there
+-- what is looked up is what is there
 pub looked_up : {A : Type 0} (xs : List A) (n : ℕ) (o : Option (Bor A)) → is_some o ≡ ltb n (length xs)
     → IfSome o (λ x. x.now ≡ get_or xs n x.now) → option_copied o ≡ slice_get xs n
 looked_up xs n None there is = sym (slice_get_past xs n (ltb-false n (length xs) (sym there)))

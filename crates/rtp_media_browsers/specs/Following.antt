@@ -39,6 +39,6 @@ current ms old = unwrap_or (section_named ms (mid_of old)) (halted old)
 abbrev pub is_new : List MediaLine → MediaLine → Bool
 is_new olds m = not (is_among (mids_of olds) (mid_of m))
 
--- The sections of an end, each as it is now, and the new ones behind them.
+-- The sections of an end, each as it is now, and the new ones after them.
 abbrev pub following : List MediaLine → List MediaLine → List MediaLine
 following olds ms = map (current ms) olds ++ filter (is_new olds) ms

@@ -52,7 +52,7 @@ identified (Some i) m = record m {
 abbrev pub is_listed : List ℕ → ℕ → Bool
 is_listed types pt = list_any (λ t. t == pt) types
 
--- Payload types in the order in which others list them, and behind these the ones that aren't there (RFC 3264 6.1).
+-- Payload types in the order in which others list them, and after these the ones that aren't there (RFC 3264 6.1).
 abbrev pub in_order : List ℕ → List ℕ → List ℕ
 in_order others types = filter (is_listed types) others ++ filter (λ pt. not (is_listed others pt)) types
 
@@ -69,7 +69,7 @@ abbrev pub user_of : Option Identity → List ℕ
 user_of None = codes "str0m-0.25.0"
 user_of (Some i) = i.user
 
--- The lines `v=` and `o=` (RFC 8866 5.1 and 5.2), and what stands behind them.
+-- The lines `v=` and `o=` (RFC 8866 5.1 and 5.2), and what follows them.
 abbrev pub with_origin : List ℕ → ℕ → ℕ → List ℕ → List ℕ
 with_origin user id version body = codes "v=0\r\no=" ++ (user ++ (codes " " ++ (decimal id ++ (codes " "
     ++ (decimal version ++ (codes " IN IP4 0.0.0.0\r\n" ++ body))))))

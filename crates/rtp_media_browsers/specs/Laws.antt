@@ -85,7 +85,7 @@ abbrev pub SectionsComeBack : Type 0
 SectionsComeBack = (t : Transport) (m : MediaLine) → IsTrue (is_end_section m) → end_section (dressed_section t m) ≡ m
 
 -- The sections that a browser gets: at its place each one that was taken out, and each of the end that has one, by its
--- name; and behind them those that are new.
+-- name; and after them those that are new.
 pub record ArePlaced (ps : List Place) (olds ms all : List MediaLine) : Type 0 where
   pub taken : (n : ℕ) (r : MediaLine) → slice_get ps n ≡ Some (Taken r) → slice_get all n ≡ Some r
   pub kept : (n : ℕ) (name : List ℕ) → slice_get ps n ≡ Some (Kept name) → slice_get all n ≡ section_named ms name
@@ -96,7 +96,7 @@ EachInItsPlace = (ps : List Place) (olds ms : List MediaLine) → IsTrue (list_a
     → ArePlaced ps olds ms (placed ps olds ms)
 
 -- Whatever a browser stops, an end is handed its own sections first and in its order. A section of the browser's is as
--- it stands there; one that isn't there any more is inactive.
+-- it is there; one that isn't there any more is inactive.
 pub record GoesOn (olds ms : List MediaLine) : Type 0 where
   pub begins : IsTrue (begin_with (mids_of olds) (following olds ms))
   pub length : length (following olds ms) ≡ length olds + length (filter (is_new olds) ms)

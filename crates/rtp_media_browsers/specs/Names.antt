@@ -16,7 +16,7 @@ abbrev pub changed : Option (List ℕ) → Option (List ℕ)
 changed None = None
 changed (Some name) = if pointwise nat_eq (name_of 16 name) name then None else Some (name_of 16 name)
 
--- The same of what stands behind `a=mid:`.
+-- The same of what follows `a=mid:`.
 abbrev pub changed_in : List ℕ → Option (List ℕ)
 changed_in line = changed (behind (codes "a=mid:") (without_return line))
 

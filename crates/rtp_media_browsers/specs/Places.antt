@@ -70,12 +70,12 @@ left (p ∷ ps) [] = []
 left (Kept name ∷ ps) (m ∷ ms) = m ∷ left ps ms
 left (Taken r ∷ ps) (m ∷ ms) = left ps ms
 
--- The place after the browser's answer, where it rejects the section.
+-- The place after the browser's answer, if it rejects the section.
 abbrev pub answered_place : Place → MediaLine → Place
 answered_place (Kept name) m = if m.disabled then Taken (rejected m) else Kept name
 answered_place (Taken r) m = Taken r
 
--- The same where the plan has a place, and of a section that the end's offer added.
+-- The same if the plan has a place, and of a section that the end's offer added.
 abbrev pub answered_or_new : Option Place → MediaLine → Place
 answered_or_new (Some p) m = answered_place p m
 answered_or_new None m = Kept (mid_of m)
@@ -104,7 +104,7 @@ unfoldable pub at_place : List MediaLine → Place → List MediaLine
 at_place ms (Taken r) = r ∷ []
 at_place ms (Kept name) = if_any (section_named ms name)
 
--- The sections that a browser gets: place by place, and behind them those that are new to it. What the end has beyond
+-- The sections that a browser gets: place by place, and after them those that are new to it. What the end has beyond
 -- these is stopped.
 abbrev pub placed : List Place → List MediaLine → List MediaLine → List MediaLine
 placed places olds ms = flat_map (at_place ms) places ++ filter (is_new olds) ms

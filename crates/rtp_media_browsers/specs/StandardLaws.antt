@@ -1,4 +1,4 @@
--- What the standards say of browsers' texts, in their own words: where a value is told, who opens the connection, in
+-- What the standards say of browsers' texts, in their own words: if a value is told, who opens the connection, in
 -- which order types are listed, and what an end writes.
 use Rattle.std.specs.Prelude.{◌≡◌, ◌≢◌, ◌⊎◌, ℕ, Bool, true, false, not, List, [], ◌∷◌, codes, filter, map}
 use Rattle.std.specs.Prelude.{Option, None, Some}
@@ -20,7 +20,7 @@ use Rattle.rtp_media_browsers.specs.Laws.{IsEndText}
 use Rattle.rtp_media_browsers.specs.Remotes.{Tells}
 use Rattle.rtp_media_browsers.specs.declared.plan.Remote.{Remote}
 
--- What is told where a section has credentials of its own, where only the session has some, and where neither has.
+-- What is told where a section has credentials of its own, if only the session has some, and where neither has.
 pub record TellsCreds (s : Session) (m : MediaLine) (remote : Remote) : Type 0 where
   pub own : (ufrag pass : List ℕ) → sections.creds_of m.attrs ≡ Some (ufrag, pass)
       → remote.creds ≡ Some (record { ufrag = ufrag; pass = pass })
@@ -33,7 +33,7 @@ pub record TellsSetup (s : Session) (m : MediaLine) (remote : Remote) : Type 0 w
   pub own : (setup : Setup) → first_of setup_in m.attrs ≡ Some setup → remote.setup ≡ Some setup
   pub shared : first_of setup_in m.attrs ≡ None → remote.setup ≡ first_of sessions.setup_in s.attrs
 
--- And of candidates: those of the section, or all of the session where it has none.
+-- And of candidates: those of the section, or all of the session if it has none.
 pub record TellsCandidates (s : Session) (m : MediaLine) (remote : Remote) : Type 0 where
   pub own : section_candidates m ≢ [] → remote.candidates ≡ section_candidates m
   pub shared : section_candidates m ≡ [] → remote.candidates ≡ session_candidates s
@@ -61,7 +61,7 @@ pub record RolesFit : Type 0 where
   pub kept : (role : Setup) (remote : Option Setup) → left_over (Some role) remote ≡ Some role
   pub unsettled : (before : Option Setup) → settled before ActPass ≡ before
 
--- An answer's types in the offer's order (RFC 3264 6.1): the same types; those of the offer in its order, and behind
+-- An answer's types in the offer's order (RFC 3264 6.1): the same types; those of the offer in its order, and after
 -- them the others in the answer's own.
 pub record IsOrdered (offered types : List ℕ) : Type 0 where
   pub same : (pt : ℕ) → is_listed (in_order offered types) pt ≡ is_listed types pt

@@ -1,5 +1,5 @@
 -- Lines of browsers' texts that browsers take and the reader refuses (RFC 8866 5 has at most one line `b=` of a kind,
--- and none behind an attribute; RFC 8866 6.6 maps a payload type once; RFC 8829 5.2.1 names each section in use).
+-- and none after an attribute; RFC 8866 6.6 maps a payload type once; RFC 8829 5.2.1 names each section in use).
 use Rattle.std.specs.Prelude.{ℕ, ◌+◌, ◌-◌, ◌^◌, ◌==◌, Bool, true, false, not, ◌&&◌, ◌||◌, length, List, [], ◌∷◌, ◌++◌, codes}
 use Rattle.std.specs.Prelude.{nat_eq, Option, None, Some, is_some, if◌then◌else◌}
 use Rattle.std.specs.Cmp.Lexicographic.{pointwise}
@@ -9,7 +9,7 @@ use Rattle.sdp_formats_grammar.specs.Numbers.{number_below}
 use Rattle.sdp_formats_grammar.specs.Split.{behind, halves, parts}
 
 -- What the lines of a text so far leave open: whether a section has begun; whether it may have no bandwidth any more;
--- whether it has a name; the payload types that it maps; and how many sections stand before it.
+-- whether it has a name; the payload types that it maps; and how many sections are before it.
 pub record Passing : Type 0 where
   pub in_section : Bool
   pub is_closed : Bool
@@ -41,7 +41,7 @@ abbrev pub is_again : List ℕ → Option ℕ → Bool
 is_again types None = false
 is_again types (Some pt) = has_type types pt
 
--- A line that is left out: an empty one, and in a section a line of bandwidth behind another or behind an attribute,
+-- A line that is left out: an empty one, and in a section a line of bandwidth after another or after an attribute,
 -- and a further map of a payload type.
 unfoldable pub is_left_out : Passing → List ℕ → Bool
 is_left_out p line = is_blank line
@@ -81,7 +81,7 @@ closing p = if not p.in_section || p.is_named then [] else name_line p.number
 abbrev pub ended : List ℕ → List ℕ
 ended line = line ++ codes "\n"
 
--- What is written of a line, and what is open behind it.
+-- What is written of a line, and what is open after it.
 unfoldable pub written_line : Passing → List ℕ → List ℕ × Passing
 written_line p line =
     if is_left_out p line then ([], p)

@@ -59,10 +59,10 @@ fn offer_handed(
 /// transport of its own, as Firefox's with `max-bundle`, is one like any other. `wishes` has a wish for each section of
 /// the offer, in order; a section without one is rejected.
 ///
-/// Lines that browsers pass over are passed over here: empty ones, a section's later lines of bandwidth and those behind
+/// Lines that browsers pass over are passed over here: empty ones, a section's later lines of bandwidth and those after
 /// an attribute, and further maps of a payload type. A section without a name gets one by its place, as `place_2`.
 ///
-/// The plan remembers the places, and what the offer tells of the browser's transport. Where the end then refuses the
+/// The plan remembers the places, and what the offer tells of the browser's transport. If the end then refuses the
 /// text, or the offer is given up, go on with a copy of the plan that was made before.
 ///
 /// # Errors
@@ -128,10 +128,10 @@ pub fn answer_for_end(alloc: Global, plan: &mut Plan, answer: &str) -> Result<St
 }
 
 /// The text that a browser gets for an end's answer or offer: its sections in the browser's places, new ones of an
-/// offer behind them, and the transport's lines behind the name of each. A section that isn't answered, or that was
+/// offer after them, and the transport's lines after the name of each. A section that isn't answered, or that was
 /// stopped, is rejected in its place, and isn't in the bundle (RFC 8829 5.2.2 and 5.3.1, RFC 9143 7.3.3). An answer
 /// lists payload types in the offer's order (RFC 3264 6.1). The version of `o=` is 2 in the first text, and the next
-/// one in each that differs from the last (RFC 3264 8). What the plan's identity gives stands in the text.
+/// one in each that differs from the last (RFC 3264 8). What the plan's identity gives is in the text.
 ///
 /// # Errors
 ///

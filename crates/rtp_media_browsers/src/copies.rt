@@ -100,7 +100,7 @@ impl Plan {
     ///
     /// # Errors
     ///
-    /// `AllocError` where memory runs out.
+    /// `AllocError` if memory runs out.
     pub fn clone(&self, alloc: Global) -> Result<Plan, AllocError>
         ensures { IfOk result (λ copy. copy ≡ self.now) }
     {

@@ -46,7 +46,7 @@ fn add_events(config: &mut CodecConfig, pt: u8, clock_rate: Frequency) -> Result
 ///
 /// # Errors
 ///
-/// `AllocError` where memory runs out.
+/// `AllocError` if memory runs out.
 pub fn rows_for_browsers(alloc: Global) -> Result<CodecConfig, AllocError>
     ensures { IfOk result (λ config. config ≡ record { rows = browser_rows; distances = [] }) }
 {

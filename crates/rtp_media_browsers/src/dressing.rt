@@ -89,7 +89,7 @@ fn is_mid(attribute: &MediaAttribute) -> bool
     matches!(attribute, MediaAttribute::Mid(_))
 }
 
-/// Adds the attribute, and the transport's lines behind it where it is the section's name.
+/// Adds the attribute, and the transport's lines after it if it is the section's name.
 #[tactic(auto, unfolding(crate::specs::ForBrowsers::dressed_attribute))]
 fn push_dressed(
     alloc: Global,
@@ -107,7 +107,7 @@ fn push_dressed(
     Ok(())
 }
 
-/// The attributes with the transport's lines behind the section's name.
+/// The attributes with the transport's lines after the section's name.
 fn dressed_attributes(
     alloc: Global,
     transport: &Transport,
@@ -200,7 +200,7 @@ fn all_bundled(
     Ok(bundled)
 }
 
-/// Adds that header extensions are mixed, where they are.
+/// Adds that header extensions are mixed, if they are.
 fn push_mixed(
     alloc: Global,
     mixed: bool,
@@ -215,7 +215,7 @@ fn push_mixed(
     Ok(())
 }
 
-/// Adds that the end is an ICE-lite one, where it is.
+/// Adds that the end is an ICE-lite one, if it is.
 fn push_lite(lite: bool, attributes: &mut Listed<SessionAttribute>) -> Result<(), AllocError>
     ensures { OnOk result (attributes.new ≡ attributes.old ++ lite_line lite) }
 {

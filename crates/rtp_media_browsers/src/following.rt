@@ -117,7 +117,7 @@ pub(crate) fn push_new(
     Ok(())
 }
 
-/// The sections of an end, each as it is now, and the new ones behind them.
+/// The sections of an end, each as it is now, and the new ones after them.
 pub(crate) fn following(
     alloc: Global,
     olds: &[MediaLine],

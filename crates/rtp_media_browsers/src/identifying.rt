@@ -113,7 +113,7 @@ fn with_identity(
     Ok(section)
 }
 
-/// A section with the end's CNAME and its tracks, where they are given.
+/// A section with the end's CNAME and its tracks, if they are given.
 pub(crate) fn identified(
     alloc: Global,
     identity: Option<&Identity>,
@@ -146,7 +146,7 @@ fn listed_in(alloc: Global, types: &[Pt], others: &[Pt]) -> Result<Vec<Pt>, Allo
     Ok(listed)
 }
 
-/// Payload types in the order in which others list them, and behind these the ones that aren't there.
+/// Payload types in the order in which others list them, and after these the ones that aren't there.
 fn in_order(alloc: Global, others: &[Pt], types: &[Pt]) -> Result<Listed<Pt>, AllocError>
     ensures { IfOk result (λ l. l ≡ in_order others.now types.now) }
 {

@@ -19,7 +19,7 @@ pub fn return_law()
 {}
 
 /// A browser gets the end's sections in its own places, by their names, with the removed ones in theirs, rejected, and
-/// new ones behind them.
+/// new ones after them.
 pub fn places_law()
     ensures placed { EachInItsPlace }
     ensures rejected { TakenAreRejected }

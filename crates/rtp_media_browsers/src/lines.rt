@@ -179,7 +179,7 @@ fn first_bundle(attributes: &[SessionAttribute]) -> Option<&Listed<Mid>>
     None
 }
 
-/// The names of the first bundle; none where there is no bundle.
+/// The names of the first bundle; none if there is no bundle.
 pub(crate) fn bundled(sdp: &Sdp) -> &[Mid]
     ensures { result.now ≡ bundled sdp.now }
 {

@@ -33,7 +33,7 @@ fn changed(name: Option<&str>) -> Option<Mid>
     Some(mid)
 }
 
-/// The name in a line, as it is read, where that is another.
+/// The name in a line, as it is read, if that is another.
 fn changed_in(line: &str) -> Option<Mid>
     ensures { result ≡ changed_in line.now }
 {

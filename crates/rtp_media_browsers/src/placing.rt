@@ -67,7 +67,7 @@ fn push_rejected(
     attributes.append(&mut maps)
 }
 
-/// What stands in an answer for a section that is rejected.
+/// What is in an answer for a section that is rejected.
 pub(crate) fn rejected(alloc: Global, section: &MediaLine) -> Result<MediaLine, AllocError>
     ensures { IfOk result (λ m. m ≡ rejected section.now) }
 {
@@ -116,7 +116,7 @@ pub(crate) fn places_of(
     Ok(places)
 }
 
-/// Adds the section, where it isn't taken out.
+/// Adds the section, if it isn't taken out.
 fn push_left(
     alloc: Global,
     place: Option<&Place>,
@@ -147,7 +147,7 @@ pub(crate) fn left(
     Ok(kept)
 }
 
-/// The place of a section of the end, where its name is given.
+/// The place of a section of the end, if its name is given.
 #[tactic(auto, unfolding(crate::specs::Places::is_place_of))]
 pub(crate) fn is_place_of(mid: Mid, place: &Place) -> bool
     ensures { result ≡ is_place_of mid place.now }

@@ -30,7 +30,7 @@ fn answered_place(alloc: Global, place: &Place, section: &MediaLine) -> Result<P
     }
 }
 
-/// The place of a section of the browser's answer, where the plan has one or where it is new.
+/// The place of a section of the browser's answer, if the plan has one or if it is new.
 fn answered_or_new(
     alloc: Global,
     place: Option<&Place>,
@@ -98,12 +98,12 @@ fn stopped_places(
 
 impl Plan {
     /// Stops the section of a name: the end's next text rejects it in its place (RFC 8829 5.2.2). The end still has
-    /// the section, and offers it inactive. A name that the end doesn't have changes nothing. Where the offer is then
+    /// the section, and offers it inactive. A name that the end doesn't have changes nothing. If the offer is then
     /// withdrawn, go on with a copy of the plan that was made before.
     ///
     /// # Errors
     ///
-    /// `AllocError` where memory runs out. The plan is then as before.
+    /// `AllocError` if memory runs out. The plan is then as before.
     pub fn stop(&mut self, alloc: Global, mid: Mid) -> Result<(), AllocError>
         ensures stopped { OnOk result (self.new ≡ record self.old {
           places = map (stopped_place (section_named self.old.sections mid) mid) self.old.places;

@@ -135,7 +135,7 @@ impl Passed {
         is_blank(line) || (self.in_section && ((self.is_closed && begins("b=", line)) || again))
     }
 
-    /// Goes on behind the line of a new section.
+    /// Goes on after the line of a new section.
     fn pass_section(&mut self)
         ensures { self.new ≡ behind_section self.old }
     {
@@ -148,7 +148,7 @@ impl Passed {
         self.types.clear();
     }
 
-    /// Goes on behind any other line.
+    /// Goes on after any other line.
     fn pass_line(&mut self, line: &str) -> Result<(), AllocError>
         ensures { OnOk result (self.new ≡ behind_line self.old line.now) }
     {
@@ -169,7 +169,7 @@ impl Passed {
         push_name(alloc, self.number, out)
     }
 
-    /// Adds the line of a new section, and a name before it where the last one has none.
+    /// Adds the line of a new section, and a name before it if the last one has none.
     fn push_section(
         &mut self,
         alloc: Global,
@@ -210,12 +210,12 @@ impl Passed {
     }
 }
 
-/// A text without the lines that browsers pass over: empty ones, a section's later lines of bandwidth and those behind
+/// A text without the lines that browsers pass over: empty ones, a section's later lines of bandwidth and those after
 /// an attribute (RFC 8866 5), and further maps of a payload type. A section without a name gets that of its place.
 ///
 /// # Errors
 ///
-/// `AllocError` where memory runs out.
+/// `AllocError` if memory runs out.
 pub(crate) fn tidied(alloc: Global, text: &str) -> Result<String, AllocError>
     ensures { IfOk result (λ t. string_bytes t ≡ tidied text.now) }
 {

@@ -23,7 +23,7 @@ fn user_of(identity: &Option<Identity>) -> &str
     }
 }
 
-/// The lines `v=` and `o=`, and what stands behind them.
+/// The lines `v=` and `o=`, and what follows them.
 fn with_origin(
     alloc: Global,
     user: &str,
@@ -65,7 +65,7 @@ fn next_version(version: u64) -> u64
     version + 1
 }
 
-/// The version of a text behind the last one.
+/// The version of a text after the last one.
 fn version_of(last: &Option<Said>, text: &str) -> u64
     ensures { result ≡ version_of last.now text.now }
 {
@@ -80,7 +80,7 @@ fn version_of(last: &Option<Said>, text: &str) -> u64
     }
 }
 
-/// What is remembered of a text behind the last one.
+/// What is remembered of a text after the last one.
 fn said_of(
     alloc: Global,
     identity: &Option<Identity>,
@@ -100,7 +100,7 @@ fn said_of(
 ///
 /// # Errors
 ///
-/// `NotWritable` where it isn't; `Memory`.
+/// `NotWritable` if it isn't; `Memory`.
 fn written(alloc: Global, text: String, sdp: &Sdp) -> Result<String, BrowserError>
     ensures written { IfOk result (λ out. IsWritten (string_bytes text) sdp.now (string_bytes out)) }
     ensures refused { IfErr result (λ e. IsUnwritten (string_bytes text) sdp.now e) }
@@ -111,11 +111,11 @@ fn written(alloc: Global, text: String, sdp: &Sdp) -> Result<String, BrowserErro
     Ok(text)
 }
 
-/// What a browser gets behind the last text, and what is remembered of it.
+/// What a browser gets after the last text, and what is remembered of it.
 ///
 /// # Errors
 ///
-/// `NotWritable` where it isn't read as that value; `Memory`.
+/// `NotWritable` if it isn't read as that value; `Memory`.
 pub(crate) fn told_text(
     alloc: Global,
     identity: &Option<Identity>,

@@ -25,7 +25,7 @@ fn number_of(places: &[Place], mid: Mid) -> Option<usize>
 }
 
 impl Plan {
-    /// The place of the section of a name in the browser's texts, counted from 0, where it isn't rejected. Where the
+    /// The place of the section of a name in the browser's texts, counted from 0, if it isn't rejected. Where the
     /// end refuses what it was handed as `NoCommonRow`, reject the section of that name alone: make its wish `Reject`,
     /// and go on with the plan from before (RFC 3264 6).
     pub fn place_of(&self, mid: Mid) -> Option<usize>
@@ -90,12 +90,12 @@ fn wanted_in(
     wanted(alloc, wish_at(wishes, number), section)
 }
 
-/// The sections of an end's answer, in its order, behind `for_end` and with the wishes that it was given: each section
+/// The sections of an end's answer, in its order, after `for_end` and with the wishes that it was given: each section
 /// that the end has, as it is wished for; one that was stopped or is rejected is inactive, without SSRCs.
 ///
 /// # Errors
 ///
-/// `AllocError` where memory runs out.
+/// `AllocError` if memory runs out.
 pub fn sections_for(
     alloc: Global,
     plan: &Plan,

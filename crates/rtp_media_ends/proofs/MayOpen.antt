@@ -1,4 +1,4 @@
--- An opening is refused nothing exactly where an end may open a stream.
+-- An opening is refused nothing if and only if an end may open a stream.
 use Rattle.std.proofs.Common.{◌≡◌, ℕ, refl, sym, ◌∙◌, ap, Bool, true, false, List}
 use Rattle.std.specs.Prelude.{Option, Some, None, if◌then◌else◌}
 use Rattle.std.specs.List.{list_any}

@@ -273,7 +273,7 @@ counts r s d bytes takes is e =
     let same : BringSame r d bytes = bring-same r s d bytes takes is e in
     same.repaired ∙ sym same.plain
 
--- a header that is read ends in its datagram, behind the twelve bytes that each has
+-- a header that is read ends in its datagram, after the twelve bytes that each has
 twelve : (n m : ℕ) (b : Bool) → 12 ≤ n → 12 ≤ (if b then n + 4 + 4 * m else n)
 twelve n m true least = omega (arith, least)
 twelve n m false least = least

@@ -42,7 +42,7 @@ headed-from s None limit (p ∷ ps) n (suc i) wire ssrc all lt =
 headed-from s (Some q) limit (p ∷ ps) n (suc i) wire ssrc all lt =
     headed-from s (Some (keeping q s.types.pt p.payload p.time)) limit ps (n + 1) i wire ssrc all.1 (omega arith)
 
--- Each datagram of samples stands behind a header.
+-- Each datagram of samples follows a header.
 pub headed : KeepCodecLawInForms → (s : Sending) (samples : List Sample) → IsSender s → AreSound s samples → (k : ℕ)
     → k < length (datagrams_of s samples) → IsHeaded (slice_index_or (datagrams_of s samples) k [])
 headed law s samples is sound k lt =

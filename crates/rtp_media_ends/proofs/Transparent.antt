@@ -20,7 +20,7 @@ use Rattle.rtp_media_ends.specs.OwnEvents.{event_in, own_events}
 use Rattle.rtp_media_ends.specs.Transparency.{AreSent, AreTwins, Receives}
 use Rattle.rtp_media_ends.proofs.Exact.{all-theirs, brings}
 
--- samples arrive alike where the map and the row are alike
+-- samples arrive alike if the map and the row are alike
 samples-alike : (s t : Sending) (xs : List Sample) → samples_of (record t { map = s.map; row = s.row }) xs
     ≡ samples_of s xs
 samples-alike s t [] = refl

@@ -188,7 +188,7 @@ impl End {
     }
 
     /// The repair of a datagram that a sending stream sent (RFC 4588 4): the datagram under the SSRC, the type and the
-    /// next number of the stream's repairs, with the two bytes of its own number behind the header. All other bytes
+    /// next number of the stream's repairs, with the two bytes of its own number after the header. All other bytes
     /// stay: marker, timestamp, header extensions, padding. It has at most `limit` bytes. A stream that failed repairs
     /// too.
     ///

@@ -29,7 +29,7 @@ use sdp_formats_rows::PayloadParams;
 use std::alloc::{AllocError, Global};
 
 /// The sending stream of this SSRC that an end of these exchanges and streams opens for the agreed row of a payload
-/// type. Where `params` has distances, it sends under the row's RED type, each payload behind older ones (RFC 2198).
+/// type. If `params` has distances, it sends under the row's RED type, each payload after older ones (RFC 2198).
 ///
 /// # Conditions
 /// The parameters are sound for the agreed row's RED type: [`StreamParams::is_sound`].
@@ -133,7 +133,7 @@ fn sender_of(
     with_distances(alloc, stream, row.red(), params.red.as_ref())
 }
 
-/// The stream with redundancy under this RED type, where there are distances.
+/// The stream with redundancy under this RED type, if there are distances.
 fn with_distances(
     alloc: Global,
     stream: SendingStream,

@@ -116,7 +116,7 @@ fn section_named(exchange: &Exchange, mid: Mid) -> Result<&AgreedSection, OpenEr
     }
 }
 
-/// The section's row of this type, where a stream can carry it.
+/// The section's row of this type, if a stream can carry it.
 fn carried_row(section: &AgreedSection, pt: Pt) -> Result<PayloadParams, OpenError>
     ensures row { IfOk result (λ r. row_in section.now.rows pt ≡ Some r) }
     ensures carried { IfOk result (λ r. is_carried r ≡ true) }

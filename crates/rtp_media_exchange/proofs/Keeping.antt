@@ -37,7 +37,7 @@ rows_plain place (row ∷ rows) e = at (is_plain row) e (rows_plain (suc place) 
     at true f later = later f
     at false f later = absurd (cc f)
 
--- types that are behind others
+-- types that are after others
 other_way : (t u : ℕ) → (t == u) ≡ false → (u == t) ≡ false
 other_way t u e = grind (arith, nat_tests)
 

@@ -1,4 +1,4 @@
--- What is agreed where offered sections are answered.
+-- What is agreed if offered sections are answered.
 use Rattle.std.specs.Prelude.{◌≡◌, ◌<◌, ◌^◌, List, [], map}
 use Rattle.rtp_media_sections.specs.PrintableSections.{IsLowPair}
 use Rattle.rtp_media_sections.specs.PrintedSections.{named}

@@ -26,7 +26,7 @@ use Rattle.rtp_media_sections.specs.Extensions.{is_writable_map}
 use Rattle.rtp_media_sections.specs.Lines.{remote_of, section_of, types_listed}
 use Rattle.rtp_media_sections.specs.Sections.{Section, Wanted, corresponds}
 
--- What is refused next, where nothing was refused yet.
+-- What is refused next, if nothing was refused yet.
 abbrev pub else_refused : {A : Type 0} → Option A → Option A → Option A
 else_refused (Some why) next = Some why
 else_refused None next = next

@@ -15,7 +15,7 @@ use std::alloc::{AllocError, Global};
 ///
 /// # Errors
 ///
-/// `AllocError` where memory runs out.
+/// `AllocError` if memory runs out.
 pub(crate) fn answered_agreement(
     alloc: Global,
     wanted: &[SectionSpec],
@@ -42,7 +42,7 @@ pub(crate) fn answered_agreement(
 ///
 /// # Errors
 ///
-/// `AllocError` where memory runs out.
+/// `AllocError` if memory runs out.
 pub(crate) fn accepted_agreement(
     alloc: Global,
     wanted: &[SectionSpec],

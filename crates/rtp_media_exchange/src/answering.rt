@@ -1,4 +1,4 @@
-//! What is written and agreed where sections are answered.
+//! What is written and agreed if sections are answered.
 
 ghost use Rattle.std.specs.Prelude.{◌≡◌, ◌≢◌, None, Some, false, true, length, map, string_bytes, IfOk, IfErr, OnOk};
 ghost use Rattle.rtp_media_sections.specs.Answered.{answered_section};
@@ -18,7 +18,7 @@ use sdp_formats_data::Session;
 use sdp_formats_rounds::CodecConfig;
 use std::alloc::{AllocError, Global};
 
-/// The section that answers an offered one, where it lists a row.
+/// The section that answers an offered one, if it lists a row.
 #[tactic(auto, unfolding(rtp_media_sections::specs::Answered::answered_section))]
 fn answered(
     alloc: Global,
@@ -76,7 +76,7 @@ pub(crate) fn answered_sections(
 ///
 /// # Errors
 ///
-/// `AllocError` where memory runs out.
+/// `AllocError` if memory runs out.
 pub(crate) fn written(
     alloc: Global,
     session: &Session,

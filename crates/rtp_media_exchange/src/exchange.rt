@@ -83,7 +83,7 @@ impl Model for Exchange {
 
 impl Exchange {
     /// An end's exchanges before the first one: its rows, its session and its map of extensions. The session's
-    /// bandwidth and attributes stand in each text that the end writes, the attributes behind the bundle.
+    /// bandwidth and attributes are in each text that the end writes, the attributes after the bundle.
     ///
     /// # Errors
     ///
@@ -115,7 +115,7 @@ impl Exchange {
     ///
     /// # Errors
     ///
-    /// `AllocError` where memory runs out.
+    /// `AllocError` if memory runs out.
     #[tactic(auto, unfolding(crate::specs::Exchanges::fixed))]
     pub fn fixed(alloc: Global) -> Result<Self, AllocError>
         ensures { IfOk result (λ x. x ≡ fixed) }

@@ -10,7 +10,7 @@ use std::alloc::{AllocError, Global};
 ///
 /// # Errors
 ///
-/// `AllocError` where memory runs out.
+/// `AllocError` if memory runs out.
 #[tactic(auto, unfolding(crate::specs::Exchanges::fixed))]
 pub(crate) fn fixed_config(alloc: Global) -> Result<CodecConfig, AllocError>
     ensures { IfOk result (λ config. config ≡ fixed.config) }

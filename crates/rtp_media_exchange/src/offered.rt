@@ -51,7 +51,7 @@ fn is_any_nameless(sections: &[SectionSpec]) -> bool
 ///
 /// # Errors
 ///
-/// `NotWritable` where one has none.
+/// `NotWritable` if one has none.
 pub(crate) fn check_named(sections: &[SectionSpec]) -> Result<(), ExchangeError>
     ensures ok { OnOk result (not_written sections.now ≡ None) }
     ensures refused { IfErr result (λ e. not_written sections.now ≡ Some e) }
@@ -66,7 +66,7 @@ pub(crate) fn check_named(sections: &[SectionSpec]) -> Result<(), ExchangeError>
 ///
 /// # Errors
 ///
-/// `AllocError` where memory runs out.
+/// `AllocError` if memory runs out.
 pub(crate) fn offered_sections(
     alloc: Global,
     exts: &ExtensionMap,

@@ -62,7 +62,7 @@ fn check_types(alloc: Global, rows: &[PayloadParams]) -> Result<(), EndError>
 /// # Errors
 ///
 /// The first that holds of `RowNotPlain`, with the place of the first row that isn't plain, `TypesNotDistinct`, with
-/// the first type that stands there twice, and `NotWritable`; or `Memory`.
+/// the first type that is there twice, and `NotWritable`; or `Memory`.
 pub(crate) fn check_new(
     alloc: Global,
     rows: &[PayloadParams],

@@ -46,7 +46,7 @@ fn lines_of(alloc: Global, sections: &[Section]) -> Result<Vec<MediaLine>, Alloc
 ///
 /// # Errors
 ///
-/// `AllocError` where memory runs out.
+/// `AllocError` if memory runs out.
 pub(crate) fn text_of(
     alloc: Global,
     session: &Session,

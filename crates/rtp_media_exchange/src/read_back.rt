@@ -71,7 +71,7 @@ fn read_back(alloc: Global, section: &Section) -> Result<Section, AllocError>
 ///
 /// # Errors
 ///
-/// `AllocError` where memory runs out.
+/// `AllocError` if memory runs out.
 pub(crate) fn all_read_back(alloc: Global, sections: &[Section]) -> Result<Vec<Section>, AllocError>
     ensures { IfOk result (λ back. back.items ≡ map read_back sections.now) }
 {

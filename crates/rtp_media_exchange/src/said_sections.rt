@@ -35,7 +35,7 @@ fn read_sections(alloc: Global, lines: &[MediaLine]) -> Result<Vec<Section>, All
     Ok(sections)
 }
 
-/// What the sections of a text say, each read once; what stands from the first line on that fits nowhere is passed
+/// What the sections of a text say, each read once; what is from the first line on that fits nowhere is passed
 /// over.
 ///
 /// # Errors

@@ -99,7 +99,7 @@ at-behind (c ∷ cs) ds i =
     let e : suc (length cs) + i ≡ suc (length cs + i) = omega arith in
     ap (λ (k : ℕ). slice_index_or (c ∷ cs ++ ds) k no_content) e ∙ at-behind cs ds i
 
--- the i-th datagram of a part is the one so many behind those of the parts before it
+-- the i-th datagram of a part is the one so many after those of the parts before it
 pub place-of : (values : ExtensionValues → ExtensionValues) (before later : List Part) (p : Part) (i : ℕ)
     → i < count_in p
     → slice_index_or (datagrams (relayed values (before ++ p ∷ later))) (count_of before + i) no_content

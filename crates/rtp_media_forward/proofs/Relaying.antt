@@ -65,7 +65,7 @@ of-first out p (q ∷ ps) s x within is = (is.from, omega (arith, is.from, is.be
 some-is : (a q : Placed) → Some a ≡ Some q → a ≡ q
 some-is a q h = cc
 
--- the first piece has it, or those behind it
+-- the first piece has it, or those after it
 found-by : (senders : ℕ → ℕ → Content) (p : Part) (ps : List Part) (out s x time : ℕ) (q : Placed) (b : Bool)
     → AreFrom senders (p ∷ ps) → IsWithin (p ∷ ps) s x
     → is_in (piece_at out p) (end_before (pieces_from (out + count_in p) ps)) s x ≡ b
@@ -401,7 +401,7 @@ keeps out p parts = by (nat_lt most_pieces (length (pieces_from out (p ∷ parts
   by true = inr refl
   by false = inl refl
 
--- where a part ends
+-- if a part ends
 ends-by : (f : Forwarding) (p : Piece) (number end : ℕ) → p.first ≤ number → number_in p number ≡ end → end < 2 ^ 62
     → f.next ≤ end → (ended_by f (Some p) number).next ≡ end
 ends-by f p number end from is small le =

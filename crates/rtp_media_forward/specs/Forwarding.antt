@@ -1,4 +1,4 @@
--- How the packets of sources are numbered and timed where they are sent on.
+-- How the packets of sources are numbered and timed if they are sent on.
 use Rattle.std.specs.Prelude.{ℕ, ◌+◌, ◌-◌, ◌%◌, ◌^◌, ◌&&◌, ◌==◌, nat_le, nat_lt, max, if◌then◌else◌, List, [], ◌∷◌}
 use Rattle.std.specs.Prelude.{◌++◌, length, drop, Bool, Option, Some, None, slice_get}
 use Rattle.rtp_media_forward.specs.declared.forwarder.Piece.{Piece}
@@ -16,7 +16,7 @@ shift_to time at = (at + (2 ^ 32 - time)) % 2 ^ 32
 abbrev pub shifted : ℕ → ℕ → ℕ
 shifted shift time = (time + shift) % 2 ^ 32
 
--- Where the numbers of a piece end: at those of the piece behind it, the last one's at the end of all numbers.
+-- Where the numbers of a piece end: at those of the piece after it, the last one's at the end of all numbers.
 abbrev pub end_before : List Piece → ℕ
 end_before [] = 2 ^ 62
 end_before (p ∷ ps) = p.out
@@ -57,7 +57,7 @@ most_pieces = 64
 abbrev pub kept : List Piece → List Piece
 kept ps = if nat_lt most_pieces (length ps) then drop 1 ps else ps
 
--- One piece more, behind all numbers that were given.
+-- One piece more, after all numbers that were given.
 abbrev pub with_piece : Forwarding → (source first shift : ℕ) → Forwarding
 with_piece f source first shift = record f {
   pieces = kept (f.pieces ++ record { source = source; first = first; out = f.next; shift = shift } ∷ []);
@@ -67,7 +67,7 @@ with_piece f source first shift = record f {
 abbrev pub switched : Forwarding → (source number time at : ℕ) → Forwarding
 switched f source number time at = with_piece f source number (shift_to time at)
 
--- What is sent on last ends before its source's packet of this number: the next piece begins where that one would stand.
+-- What is sent on last ends before its source's packet of this number: the next piece begins where that one would be.
 abbrev pub ended_by : Forwarding → Option Piece → ℕ → Forwarding
 ended_by f None number = f
 ended_by f (Some p) number =

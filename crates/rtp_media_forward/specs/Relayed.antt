@@ -8,7 +8,7 @@ use Rattle.rtp_media_schedules.specs.Sending.{numbered}
 use Rattle.rtp_media_forward.specs.Forwarding.{shifted}
 use Rattle.rtp_media_forward.specs.declared.forwarder.Piece.{Piece}
 
--- Samples of one source that are sent on, one behind the other: the source, the number of their first datagram there,
+-- Samples of one source that are sent on, one after the other: the source, the number of their first datagram there,
 -- what is added to their timestamps, and the samples as the source sends them.
 pub record Part : Type 0 where
   pub source : ℕ
@@ -24,7 +24,7 @@ abbrev pub count_of : List Part → ℕ
 count_of [] = 0
 count_of (p ∷ ps) = count_in p + count_of ps
 
--- The pieces of parts that are sent on one behind the other, numbered from here on.
+-- The pieces of parts that are sent on one after the other, numbered from here on.
 abbrev pub piece_at : ℕ → Part → Piece
 piece_at out p = record { source = p.source; first = p.first; out = out; shift = p.shift }
 
@@ -44,7 +44,7 @@ relayed_sample values shift s = record {
 abbrev pub relayed_samples : (ExtensionValues → ExtensionValues) → Part → List SentSample
 relayed_samples values p = map (relayed_sample values p.shift) p.samples
 
--- The samples that the stream sends: those of the parts, one part behind the other.
+-- The samples that the stream sends: those of the parts, one part after the other.
 abbrev pub relayed : (ExtensionValues → ExtensionValues) → List Part → List SentSample
 relayed values [] = []
 relayed values (p ∷ ps) = relayed_samples values p ++ relayed values ps

@@ -13,7 +13,7 @@ const END_OF_NUMBERS: u64 = 0x4000_0000_0000_0000;
 /// How many pieces are kept.
 const MOST_PIECES: usize = 64;
 
-/// Where a packet stands among those that are sent on.
+/// Where a packet is among those that are sent on.
 #[derive(Clone, Copy, Debug, PartialEq, Eq, Drop)]
 pub struct Placed {
     /// Its number.
@@ -60,7 +60,7 @@ fn shift_to(time: u32, at: u32) -> u32
 }
 
 impl Piece {
-    /// Whether it has a source's packet of this number, where its numbers end here.
+    /// Whether it has a source's packet of this number, if its numbers end here.
     fn has(&self, end: u64, source: u64, number: u64) -> bool
         ensures { result ≡ is_in self.now end source number }
     {
@@ -80,7 +80,7 @@ fn end_before(pieces: &[Piece]) -> u64
     }
 }
 
-/// Where a source's packet stands in these pieces.
+/// Where a source's packet is in these pieces.
 fn placed_in(pieces: &[Piece], source: u64, number: u64, time: u32) -> Option<Placed>
     ensures placed { result ≡ placed_in pieces.now source number time }
     ensures below { IfSome result (λ p. p.number + 1 < 2 ^ 64) }
@@ -115,7 +115,7 @@ impl Forwarder {
         self.next
     }
 
-    /// Under which number and timestamp a source's packet of these is sent on. None where no piece has it, and it is
+    /// Under which number and timestamp a source's packet of these is sent on. None if no piece has it, and it is
     /// not sent on.
     pub fn place(&self, source: u64, number: u64, time: u32) -> Option<Placed>
         ensures placed { result ≡ placed self.now source number time }
@@ -147,8 +147,8 @@ impl Forwarder {
         self.begin(source, number, shift_to(time, at))
     }
 
-    /// Says that what is sent on of the source that is sent on last ends before its packet of this number, where that is
-    /// known, as from the first packet of its next frame: the next piece begins where that packet would stand, and
+    /// Says that what is sent on of the source that is sent on last ends before its packet of this number, if that is
+    /// known, as from the first packet of its next frame: the next piece begins where that packet would be, and
     /// packets before it may still come.
     pub fn end_at(&mut self, number: u64)
         ensures { self.new ≡ ended self.old number }

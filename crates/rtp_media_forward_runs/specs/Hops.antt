@@ -42,7 +42,7 @@ pub record IsPlain (s : Sending) : Type 0 where
 abbrev pub receiver_of : Holding → Sending → Receiving
 receiver_of holding s = opened_receiver s.ssrc s.types s.map s.row holding
 
--- The values that arrive, where those of a source's datagram are sent on as these.
+-- The values that arrive, if those of a source's datagram are sent on as these.
 abbrev pub values_by : Sending → (ExtensionValues → ExtensionValues) → ExtensionValues → ExtensionValues
 values_by s own values = carried s (own values)
 

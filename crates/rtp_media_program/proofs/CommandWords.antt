@@ -1,4 +1,4 @@
--- Reading from left to right gives the command whose words stand there, and no other.
+-- Reading from left to right gives the command whose words are there, and no other.
 use Rattle.std.proofs.Common.{◌≡◌, ℕ, ◌^◌, List, [], ◌∷◌, Option, None, Some, codes, refl, sym, ◌∙◌, ap, subst}
 use Rattle.std.specs.Option.{option_map}
 use Rattle.std.specs.Prelude.{option_to_list}
@@ -26,7 +26,7 @@ use Rattle.rtp_media_program.proofs.PlayWords.{read_play, read_queue}
 use Rattle.rtp_media_program.specs.Says.{Says, AreSendWords, AreOpenWords, AreSampleWords, mid_words, AreReceiveWords}
 use Rattle.rtp_media_program.specs.Says.{AreAskWords, AreBoundWords, ArePollWords, AreRepairWords, ask_word, bound_word, held_number}
 
--- ---- what is read stands there
+-- ---- what is read is there
 
 fixed_says : (verb : List ℕ) (words : List (List ℕ)) (c : Command) → verb ≡ codes "fixed" → fixed_of words ≡ Some c
     → Says (verb ∷ words) c
@@ -267,7 +267,7 @@ says_what_is_read (verb ∷ words) c h =
     (dispatch (bytes_eq verb (codes "repair")) _ _ _ _ (λ v. repair_says verb words c (same verb _ v))
     (stream_says verb words c))))))) h
 
--- ---- what stands there is read
+-- ---- what is there is read
 
 read_fixed : (e : List ℕ) (letter : _) → letter_of e ≡ Some letter → fixed_of (e ∷ []) ≡ Some (Fixed letter)
 unfolding fixed_of

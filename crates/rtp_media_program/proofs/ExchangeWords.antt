@@ -1,4 +1,4 @@
--- Reading from left to right gives the command whose words stand there: the commands of exchanges.
+-- Reading from left to right gives the command whose words are there: the commands of exchanges.
 use Rattle.std.proofs.Common.{◌≡◌, ℕ, ◌^◌, Bool, true, false, List, [], ◌∷◌, ◌++◌, None, Some, codes, refl, sym, ◌∙◌}
 use Rattle.std.proofs.Common.{ap, subst}
 use Rattle.std.specs.Str.{bytes_eq}
@@ -19,7 +19,7 @@ use Rattle.rtp_media_program.proofs.ReadSteps.{bind_some, read_on, ended_some, g
 some_is : {A : Type 0} {x y : A} → Some x ≡ Some y → x ≡ y
 some_is h = cc h
 
--- ---- what is read stands there
+-- ---- what is read is there
 
 row_says : (verb : List ℕ) (words : List (List ℕ)) (c : Command) → verb ≡ codes "row" → row_of words ≡ Some c
     → Says (verb ∷ words) c
@@ -151,7 +151,7 @@ withdraw_says verb words c v h =
     let end = ended_some after_e _ c left_e in
     subst (Says (verb ∷ words)) end.1 (e_word, glue v (is_e ∙ under e_word end.0), says_e))
 
--- the words before a slash, and those behind it
+-- the words before a slash, and those after it
 abbrev Slashed : List (List ℕ) → List SectionWord × List (List ℕ) → Type 0
 Slashed words x = (before : List (List ℕ)) × (words ≡ before ++ codes "/" ∷ x.1) × (sections_of before ≡ Some x.0)
 
@@ -198,7 +198,7 @@ exchange_says verb words c h =
     (dispatch (bytes_eq verb (codes "connect")) _ _ _ _ (λ v. connect_says verb words c (same verb _ v))
     (run_says verb words c)))))))) h
 
--- ---- what stands there is read
+-- ---- what is there is read
 
 pub read_row : (words : List (List ℕ)) (row : _) (a : AreRowWords words row)
     → row_of (a.e ∷ a.pt ∷ a.resend ∷ a.red ∷ a.codec ∷ a.clock ∷ a.channels ∷ a.format ∷ []) ≡ Some (Row row)

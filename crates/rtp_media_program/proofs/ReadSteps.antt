@@ -5,7 +5,7 @@ use Rattle.std.specs.Str.{bytes_eq}
 use Rattle.std.proofs.lemmas.Slice.Eq.{bytes_eq-Decides}
 use Rattle.rtp_media_program.specs.Words.{first, ended, ◌>>=◌}
 
--- what a `Some` behind a step shows
+-- what a `Some` after a step shows
 pub bind_some : {A B : Type 0} (o : Option A) (f : A → Option B) (y : B) → (o >>= f) ≡ Some y → (x : A)
     × (o ≡ Some x) × (f x ≡ Some y)
 bind_some (Some x) f y h = (x, refl, h)
@@ -16,7 +16,7 @@ pub ended_some : {A : Type 0} (words : List (List ℕ)) (x y : A) → ended word
 ended_some [] x y h = (refl, cc h)
 ended_some (word ∷ words) x y h = cc h
 
--- what follows from the next word, what it says, and the words behind it
+-- what follows from the next word, what it says, and the words after it
 pub read_on : {A B : Type 0} (P : Type 0) (read : List ℕ → Option A) (words : List (List ℕ))
     (f : A × List (List ℕ) → Option B) (y : B)
     → (first read words >>= f) ≡ Some y

@@ -29,7 +29,7 @@ unsplit_step : {X : Type 0} (b : Bool) (m : ℕ) (x : X) (xs : List X) (parts : 
 unsplit_step true m x xs parts h ih = absurd (omega arith)
 unsplit_step false m x xs parts h ih = ap (onto_first x) (ih (omega arith))
 
--- where no element passes there is one part
+-- if no element passes there is one part
 pub slice_split-whole : {X : Type 0} (p : X → Bool) (xs : List X) → position_or_len p xs ≡ length xs
     → slice_split p xs ≡ xs ∷ []
 slice_split-whole p [] h = refl

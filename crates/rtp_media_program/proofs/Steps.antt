@@ -133,7 +133,7 @@ module _ {S : Type 0} (gives : S → Command → S → List Reply → Type 0) wh
   whole {seen = seen} p =
       ap lines_of (sym (append-nil seen)) ∙ p.parts [] ∙ ap (λ tail. p.ended ++ lines_of tail) (append-nil p.tail)
 
-  -- the input ends behind a line feed, or is empty
+  -- the input ends after a line feed, or is empty
   pub Printed-ended : (start : S) (before : Option (List ℕ)) (seen : List ℕ) (state : S)
       (after held : Option (List ℕ)) (status : Status)
       → held ≡ Some [] → Progress gives start before seen state after held status
@@ -150,7 +150,7 @@ module _ {S : Type 0} (gives : S → Command → S → List Reply → Type 0) wh
         status_is = p.status_is;
       }
 
-  -- the input ends behind a line that isn't empty
+  -- the input ends after a line that isn't empty
   pub Printed-last : (start : S) (before : Option (List ℕ)) (seen : List ℕ) (state : S)
       (after held : Option (List ℕ)) (status : Status) (next : S) (later : Option (List ℕ)) (more : Status)
       → (held ≡ Some [] → ⊥) → Progress gives start before seen state after held status
@@ -171,7 +171,7 @@ module _ {S : Type 0} (gives : S → Command → S → List Reply → Type 0) wh
             ∙ status_of-append p.replies one.replies;
       }
 
-  -- what is printed stays so where the writer keeps it
+  -- what is printed stays so if the writer keeps it
   pub Printed-kept : (start : S) (before : Option (List ℕ)) (seen : List ℕ) (state : S)
       (after later : Option (List ℕ)) (status : Status)
       → Printed gives start state before after seen status → Keeps after later

@@ -45,7 +45,7 @@ abbrev pub WithSound : List Wanted → EndState → EndState → List Reply → 
 WithSound sections e after replies answers =
     Where (are_sound sections) answers ((after ≡ e) × Prints replies reply.ErrorLine)
 
--- An offer's text is printed, where nothing refuses it.
+-- An offer's text is printed, if nothing refuses it.
 pub record PrintsOffer (e : EndState) (sections : List Wanted) (after : EndState) (replies : List Reply) : Type 0 where
   pub text : List ℕ
   pub may_offer : refusal_of_offer e.exchange sections ≡ None
@@ -66,7 +66,7 @@ AnswersOffer e sections after replies = WithSound sections e after replies
     (PrintsOffer e sections after replies ⊎ PrintsRefusal e after
     (λ error. Refuses error (refusal_of_offer e.exchange sections)) replies)
 
--- An answer's text is printed, where nothing refuses it.
+-- An answer's text is printed, if nothing refuses it.
 pub record PrintsAnswer (e : EndState) (text : List ℕ) (sections : List Wanted) (after : EndState)
     (replies : List Reply) : Type 0 where
   pub answer : List ℕ
@@ -81,7 +81,7 @@ AnswersAnswer e text sections after replies = WithSound sections e after replies
     (PrintsAnswer e text sections after replies
     ⊎ PrintsRefusal e after (RefusesAnswer e.exchange text sections) replies)
 
--- An answer is accepted, where nothing refuses it.
+-- An answer is accepted, if nothing refuses it.
 pub record PrintsAccept (e : EndState) (text : List ℕ) (after : EndState) (replies : List Reply) : Type 0 where
   pub may_accept : MayAccept e.exchange text
   pub accepts : Accepts e.exchange text after.exchange
@@ -121,7 +121,7 @@ AnswersConnect a b sections_a sections_b after_a after_b replies = Where (are_so
     ⊎ PrintsNeither a b sections_a sections_b after_a after_b replies)
     ((after_a ≡ a) × (after_b ≡ b) × Prints replies reply.ErrorLine)
 
--- Both ends are connected, where both are there.
+-- Both ends are connected, if both are there.
 abbrev pub ConnectsEnds : Option EndState → Option EndState → ConnectCommand → Option EndState → Option EndState
     → List Reply → Type 0
 ConnectsEnds (Some a) (Some b) c (Some after_a) (Some after_b) replies =

@@ -9,7 +9,7 @@ use Rattle.rtp_media_program.specs.Words.{number_below}
 abbrev pub is_comment : List ℕ → Bool
 is_comment line = bytes_eq line (codes "help") || starts_with eqb line (codes "#")
 
--- A line itself, where it is UTF-8.
+-- A line itself, if it is UTF-8.
 abbrev pub text_of : List ℕ → List ℕ
 text_of line = if is_utf8 line then line else codes "(a line that isn't UTF-8)"
 
@@ -17,7 +17,7 @@ text_of line = if is_utf8 line then line else codes "(a line that isn't UTF-8)"
 abbrev pub word_at : List ℕ → ℕ → List ℕ
 word_at line place = get_or (slice_split (λ b. b == 32) line) place []
 
--- The number of this place in a line, where decimal digits write one below 2^64.
+-- The number of this place in a line, if decimal digits write one below 2^64.
 abbrev pub number_at : List ℕ → ℕ → Option ℕ
 number_at line place = number_below (2 ^ 64) (word_at line place)
 

@@ -163,7 +163,7 @@ command_of (verb ∷ words) =
     else if bytes_eq verb (codes "repair") then repair_of words
     else stream_command_of verb words
 
--- What a line says, where it is understood.
+-- What a line says, if it is understood.
 unfoldable pub line_of : List ℕ → Option Line
 line_of bytes =
     if length bytes == 0 then Some line.Empty

@@ -30,7 +30,7 @@ made = record { is_made = true; streams = [] }
 abbrev pub none_made : Known
 none_made = record { a = unmade; b = unmade }
 
--- The number of this place in a line, and 0 where there is none.
+-- The number of this place in a line, and 0 if there is none.
 abbrev pub number_or_zero : List ℕ → ℕ → ℕ
 number_or_zero line place = unwrap_or (number_at line place) 0
 

@@ -24,7 +24,7 @@ direction_of word =
     else if bytes_eq word (codes "inactive") then Some Inactive
     else None
 
--- What stands between single plus signs.
+-- What is between single plus signs.
 abbrev pub plus_parts : List ℕ → List (List ℕ)
 plus_parts word = slice_split (λ b. b == 43) word
 
@@ -51,7 +51,7 @@ source_of word = do
 abbrev pub sources_of : List ℕ → Option (List SourceWord)
 sources_of word = if bytes_eq word (codes "-") then Some [] else each_of source_of (comma_parts word)
 
--- What stands between single colons.
+-- What is between single colons.
 abbrev pub colon_parts : List ℕ → List (List ℕ)
 colon_parts word = slice_split (λ b. b == 58) word
 

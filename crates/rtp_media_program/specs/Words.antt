@@ -56,7 +56,7 @@ each_of read (word ∷ words) = do
   more ← each_of read words
   Some (said ∷ more)
 
--- What stands between single commas.
+-- What is between single commas.
 abbrev pub comma_parts : List ℕ → List (List ℕ)
 comma_parts word = slice_split (λ b. b == 44) word
 

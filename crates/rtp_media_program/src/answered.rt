@@ -15,7 +15,7 @@ use std::alloc::{AllocError, Global};
 /// any other line is answered by `responder` first. Notes the replies.
 ///
 /// # Errors
-/// Where memory runs out, or the line has more than 64 GiB. Of a line that was answered a front of the replies is noted
+/// If memory runs out, or the line has more than 64 GiB. Of a line that was answered a front of the replies is noted
 /// then, perhaps none or all, and else nothing.
 pub fn answer_and_explain<A: Respond>(
     alloc: Global,

@@ -43,7 +43,7 @@ pub struct OpenCommand {
     pub pt: u8,
     /// How many complete frames are held back for one that is missing.
     pub hold_back: usize,
-    /// How many packets may wait, 4,096 where the line doesn't say.
+    /// How many packets may wait, 4,096 if the line doesn't say.
     pub held: usize,
 }
 
@@ -58,7 +58,7 @@ pub struct SampleCommand {
     pub time: u64,
     /// The sample's bytes.
     pub sample: Bytes,
-    /// The media identification that its header extension carries (RFC 9143 15), where one is given.
+    /// The media identification that its header extension carries (RFC 9143 15), if one is given.
     pub mid: Option<Word>,
 }
 

@@ -93,10 +93,10 @@ pub struct ConnectCommand {
     pub answered: Sections,
 }
 
-/// What the words behind the first one of `row E PT RTX RED CODEC CLOCK CHANNELS FMTP` say.
+/// What the words after the first one of `row E PT RTX RED CODEC CLOCK CHANNELS FMTP` say.
 ///
 /// # Errors
-/// `NotUnderstood` where they aren't such words, `Memory` where memory runs out.
+/// `NotUnderstood` if they aren't such words, `Memory` if memory runs out.
 #[tactic(auto, unfolding(crate::specs::ExchangeLines::row_of))]
 pub fn row_of(alloc: Global, words: WordsLeft<'_>) -> Result<Command, Misread>
     ensures { Reads result (row_of words.entry) }
@@ -108,7 +108,7 @@ pub fn row_of(alloc: Global, words: WordsLeft<'_>) -> Result<Command, Misread>
     rest_of_row(alloc, letter, pt as u8, resend, red, rest)
 }
 
-/// The words of a `row` line behind its types.
+/// The words of a `row` line after its types.
 fn rest_of_row(
     alloc: Global,
     letter: Letter,
@@ -136,10 +136,10 @@ fn rest_of_row(
     }))
 }
 
-/// What the words behind the first one of `ext E ID URI` say.
+/// What the words after the first one of `ext E ID URI` say.
 ///
 /// # Errors
-/// `NotUnderstood` where they aren't such words, `Memory` where memory runs out.
+/// `NotUnderstood` if they aren't such words, `Memory` if memory runs out.
 #[tactic(auto, unfolding(crate::specs::ExchangeLines::ext_of))]
 pub fn ext_of(alloc: Global, words: WordsLeft<'_>) -> Result<Command, Misread>
     ensures { Reads result (ext_of words.entry) }
@@ -155,10 +155,10 @@ pub fn ext_of(alloc: Global, words: WordsLeft<'_>) -> Result<Command, Misread>
     }))
 }
 
-/// What the words behind the first one of `end E SESSION` say.
+/// What the words after the first one of `end E SESSION` say.
 ///
 /// # Errors
-/// `NotUnderstood` where they aren't such words.
+/// `NotUnderstood` if they aren't such words.
 #[tactic(auto, unfolding(crate::specs::ExchangeLines::end_of))]
 pub fn end_of(words: WordsLeft<'_>) -> Result<Command, Misread>
     ensures { Reads result (end_of words.entry) }
@@ -169,10 +169,10 @@ pub fn end_of(words: WordsLeft<'_>) -> Result<Command, Misread>
     Ok(Command::End(EndCommand { letter, session }))
 }
 
-/// What the words behind the first one of `offer E SECTION..` say.
+/// What the words after the first one of `offer E SECTION..` say.
 ///
 /// # Errors
-/// `NotUnderstood` where they aren't such words, `Memory` where memory runs out.
+/// `NotUnderstood` if they aren't such words, `Memory` if memory runs out.
 #[tactic(auto, unfolding(crate::specs::ExchangeLines::offer_of))]
 pub fn offer_of(alloc: Global, words: WordsLeft<'_>) -> Result<Command, Misread>
     ensures { Reads result (offer_of words.entry) }
@@ -182,10 +182,10 @@ pub fn offer_of(alloc: Global, words: WordsLeft<'_>) -> Result<Command, Misread>
     Ok(Command::Offer(OfferCommand { letter, sections }))
 }
 
-/// What the words behind the first one of `answer E HEX SECTION..` say.
+/// What the words after the first one of `answer E HEX SECTION..` say.
 ///
 /// # Errors
-/// `NotUnderstood` where they aren't such words, `Memory` where memory runs out.
+/// `NotUnderstood` if they aren't such words, `Memory` if memory runs out.
 #[tactic(auto, unfolding(crate::specs::ExchangeLines::answer_of))]
 pub fn answer_of(alloc: Global, words: WordsLeft<'_>) -> Result<Command, Misread>
     ensures { Reads result (answer_of words.entry) }
@@ -200,10 +200,10 @@ pub fn answer_of(alloc: Global, words: WordsLeft<'_>) -> Result<Command, Misread
     }))
 }
 
-/// What the words behind the first one of `accept E HEX` say.
+/// What the words after the first one of `accept E HEX` say.
 ///
 /// # Errors
-/// `NotUnderstood` where they aren't such words, `Memory` where memory runs out.
+/// `NotUnderstood` if they aren't such words, `Memory` if memory runs out.
 #[tactic(auto, unfolding(crate::specs::ExchangeLines::accept_of))]
 pub fn accept_of(alloc: Global, words: WordsLeft<'_>) -> Result<Command, Misread>
     ensures { Reads result (accept_of words.entry) }
@@ -214,10 +214,10 @@ pub fn accept_of(alloc: Global, words: WordsLeft<'_>) -> Result<Command, Misread
     Ok(Command::Accept(AcceptCommand { letter, text }))
 }
 
-/// What the words behind the first one of `withdraw E` say.
+/// What the words after the first one of `withdraw E` say.
 ///
 /// # Errors
-/// `NotUnderstood` where they aren't such words.
+/// `NotUnderstood` if they aren't such words.
 #[tactic(auto, unfolding(crate::specs::ExchangeLines::withdraw_of))]
 pub fn withdraw_of(words: WordsLeft<'_>) -> Result<Command, Misread>
     ensures { Reads result (withdraw_of words.entry) }
@@ -227,10 +227,10 @@ pub fn withdraw_of(words: WordsLeft<'_>) -> Result<Command, Misread>
     Ok(Command::Withdraw(letter))
 }
 
-/// What the words behind the first one of `connect SECTION.. / SECTION..` say.
+/// What the words after the first one of `connect SECTION.. / SECTION..` say.
 ///
 /// # Errors
-/// `NotUnderstood` where they aren't such words, `Memory` where memory runs out.
+/// `NotUnderstood` if they aren't such words, `Memory` if memory runs out.
 #[tactic(auto, unfolding(crate::specs::ExchangeLines::connect_of))]
 pub fn connect_of(alloc: Global, words: WordsLeft<'_>) -> Result<Command, Misread>
     ensures { Reads result (connect_of words.entry) }

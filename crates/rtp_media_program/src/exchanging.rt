@@ -76,11 +76,11 @@ fn wanted_in(alloc: Global, sections: &[SectionWord]) -> Result<Vec<SectionSpec>
     Ok(wanted)
 }
 
-/// Asks an end for the text of an offer: an error line, where the repairs of a section don't fit its sources; a refusal
+/// Asks an end for the text of an offer: an error line, if the repairs of a section don't fit its sources; a refusal
 /// is printed by its name.
 ///
 /// # Errors
-/// Where memory for sections or replies runs out.
+/// If memory for sections or replies runs out.
 pub fn offer(alloc: Global, end: &mut End, command: OfferCommand) -> Result<Vec<Reply>, AllocError>
     ensures { IfOk result (λ replies. AnswersOffer end.old (wanted_in command.sections) end.new replies.items) }
 {
@@ -94,7 +94,7 @@ pub fn offer(alloc: Global, end: &mut End, command: OfferCommand) -> Result<Vec<
     }
 }
 
-/// The text that bytes are, where they are UTF-8.
+/// The text that bytes are, if they are UTF-8.
 #[tactic(auto, using(payload_core_base::proofs::Texts::text, payload_core_base::proofs::Texts::no_text))]
 fn text_in(bytes: &[u8]) -> Option<&str>
     ensures some { IfSome result (λ text. (text.now ≡ bytes.now) × (is_utf8 bytes.now ≡ true)) }
@@ -106,11 +106,11 @@ fn text_in(bytes: &[u8]) -> Option<&str>
     }
 }
 
-/// Has an end answer an offer's text: an error line, where it isn't UTF-8, or the repairs of a section don't fit its
+/// Has an end answer an offer's text: an error line, if it isn't UTF-8, or the repairs of a section don't fit its
 /// sources; a refusal is printed by its name.
 ///
 /// # Errors
-/// Where memory for sections or replies runs out.
+/// If memory for sections or replies runs out.
 pub fn answer_offer(
     alloc: Global,
     end: &mut End,
@@ -143,10 +143,10 @@ fn answer_text(
     }
 }
 
-/// Has an end take an answer's text: an error line, where it isn't UTF-8; a refusal is printed by its name.
+/// Has an end take an answer's text: an error line, if it isn't UTF-8; a refusal is printed by its name.
 ///
 /// # Errors
-/// Where memory for the reply runs out.
+/// If memory for the reply runs out.
 pub fn accept(
     alloc: Global,
     end: &mut End,
@@ -173,7 +173,7 @@ fn accept_text(alloc: Global, end: &mut End, text: &str) -> Result<Vec<Reply>, A
 /// Gives up the offer that is pending, if one is.
 ///
 /// # Errors
-/// Where memory for the reply runs out.
+/// If memory for the reply runs out.
 pub fn withdraw(alloc: Global, end: &mut End) -> Result<Vec<Reply>, AllocError>
     ensures { IfOk result (λ replies. AnswersWithdraw end.old end.new replies.items) }
 {
@@ -184,11 +184,11 @@ pub fn withdraw(alloc: Global, end: &mut End) -> Result<Vec<Reply>, AllocError>
     }
 }
 
-/// Lets `a` offer and `b` answer: an error line, where one of them is none, or the repairs of a section don't fit its
+/// Lets `a` offer and `b` answer: an error line, if one of them is none, or the repairs of a section don't fit its
 /// sources; a refusal is printed by its name.
 ///
 /// # Errors
-/// Where memory for sections or replies runs out.
+/// If memory for sections or replies runs out.
 pub fn connect_ends(
     alloc: Global,
     a: &mut Option<End>,
@@ -208,7 +208,7 @@ pub fn connect_ends(
     connect_made(alloc, a, b, offered, answered)
 }
 
-/// The same where both ends are there.
+/// The same if both ends are there.
 fn connect_made(
     alloc: Global,
     a: &mut End,

@@ -14,11 +14,11 @@ use std::alloc::{AllocError, Global};
 use words_and_replies::ReplyText;
 
 /// What came of a line, in words, each line of it with its line feed: the line with its number, the replies to it and
-/// why where they say no, and what became before of an end that it makes anew. Notes the replies. Behind `help` stand
+/// why where they say no, and what became before of an end that it makes anew. Notes the replies. After `help` are
 /// the forms of all lines.
 ///
 /// # Errors
-/// Where memory runs out, or what stands behind a reply `text` isn't hexadecimal digits. A front of the replies is
+/// If memory runs out, or what follows a reply `text` isn't hexadecimal digits. A front of the replies is
 /// noted then, perhaps none or all.
 pub fn explain(
     alloc: Global,
@@ -69,7 +69,7 @@ fn put_about(known: &Known, number: u64, line: &[u8], reply: &str, said: &mut Re
     said.say_some("", &known.replaced(text_of(line), reply));
 }
 
-/// Writes the lines of a text, each behind some blanks.
+/// Writes the lines of a text, each after some blanks.
 fn put_lines(blanks: &str, text: &str, said: &mut ReplyText) {
     for line in text.lines() {
         put_line(blanks, line, said);

@@ -57,7 +57,7 @@ pub fn number_up_to(word: &str, max: u64) -> Option<u64>
 ///
 /// # Errors
 ///
-/// `NotUnderstood` where it has another sign, or an odd number of them, or none; or `Memory`.
+/// `NotUnderstood` if it has another sign, or an odd number of them, or none; or `Memory`.
 pub fn hex_of(alloc: Global, word: &str) -> Result<Bytes, Misread>
     ensures { Reads result (hex_of word.now) }
 {
@@ -76,7 +76,7 @@ pub fn hex_of(alloc: Global, word: &str) -> Result<Bytes, Misread>
     }
 }
 
-/// The numbers below 256 that stand between single commas.
+/// The numbers below 256 that are between single commas.
 fn numbers_of(alloc: Global, word: &str) -> Result<Bytes, Misread>
     ensures { Reads result (numbers_of word.now) }
 {
@@ -93,7 +93,7 @@ fn numbers_of(alloc: Global, word: &str) -> Result<Bytes, Misread>
     Ok(Bytes::from_vec(numbers))
 }
 
-/// The text before the first comma, and what stands behind that comma.
+/// The text before the first comma, and what follows that comma.
 pub(crate) fn split_comma(text: &str) -> (&str, Option<&str>)
     ensures { comma_parts text.now ≡ result.0.now ∷ parts_in (option_copied result.1) }
 {
@@ -107,7 +107,7 @@ pub(crate) fn split_comma(text: &str) -> (&str, Option<&str>)
 ///
 /// # Errors
 ///
-/// `NotUnderstood` where no word is left, or it names no end.
+/// `NotUnderstood` if no word is left, or it names no end.
 pub fn letter_word(words: WordsLeft<'_>) -> Result<(Letter, WordsLeft<'_>), Misread>
     ensures value { Reads result (first letter_of words.entry) }
     ensures never_memory { IfErr result (λ e. e ≢ Misread.Memory) }
@@ -123,7 +123,7 @@ pub fn letter_word(words: WordsLeft<'_>) -> Result<(Letter, WordsLeft<'_>), Misr
 ///
 /// # Errors
 ///
-/// `NotUnderstood` where no word is left, or it is no such number.
+/// `NotUnderstood` if no word is left, or it is no such number.
 pub fn number_word(words: WordsLeft<'_>, max: u64) -> Result<(u64, WordsLeft<'_>), Misread>
     ensures value { Reads result (first (number_below (max + 1)) words.entry) }
     ensures bound { IfOk result (λ x. x.0 ≤ max) }
@@ -140,7 +140,7 @@ pub fn number_word(words: WordsLeft<'_>, max: u64) -> Result<(u64, WordsLeft<'_>
 ///
 /// # Errors
 ///
-/// `NotUnderstood` where no word is left, or it is empty; or `Memory`.
+/// `NotUnderstood` if no word is left, or it is empty; or `Memory`.
 pub fn text_word(alloc: Global, words: WordsLeft<'_>) -> Result<(Word, WordsLeft<'_>), Misread>
     ensures { Reads result (first text_of words.entry) }
 {
@@ -155,7 +155,7 @@ pub fn text_word(alloc: Global, words: WordsLeft<'_>) -> Result<(Word, WordsLeft
 ///
 /// # Errors
 ///
-/// `NotUnderstood` where no word is left, or it isn't hexadecimal; or `Memory`.
+/// `NotUnderstood` if no word is left, or it isn't hexadecimal; or `Memory`.
 pub fn hex_word(alloc: Global, words: WordsLeft<'_>) -> Result<(Bytes, WordsLeft<'_>), Misread>
     ensures { Reads result (first hex_of words.entry) }
 {
@@ -168,7 +168,7 @@ pub fn hex_word(alloc: Global, words: WordsLeft<'_>) -> Result<(Bytes, WordsLeft
 ///
 /// # Errors
 ///
-/// `NotUnderstood` where no word is left, or it is neither a dash nor numbers; or `Memory`.
+/// `NotUnderstood` if no word is left, or it is neither a dash nor numbers; or `Memory`.
 pub fn distances_word(
     alloc: Global,
     words: WordsLeft<'_>,
@@ -187,7 +187,7 @@ pub fn distances_word(
 ///
 /// # Errors
 ///
-/// `NotUnderstood` where no word is left, or it is neither a dash nor a number below 65,536.
+/// `NotUnderstood` if no word is left, or it is neither a dash nor a number below 65,536.
 pub fn picture_id_word(words: WordsLeft<'_>) -> Result<(Option<u16>, WordsLeft<'_>), Misread>
     ensures value { Reads result (first (dash_or (number_below (2 ^ 16))) words.entry) }
     ensures never_memory { IfErr result (λ e. e ≢ Misread.Memory) }
@@ -206,7 +206,7 @@ pub fn picture_id_word(words: WordsLeft<'_>) -> Result<(Option<u16>, WordsLeft<'
 ///
 /// # Errors
 ///
-/// `NotUnderstood` where no word is left, or it is neither a dash nor such a number.
+/// `NotUnderstood` if no word is left, or it is neither a dash nor such a number.
 pub fn number_or_dash_word(words: WordsLeft<'_>) -> Result<(Option<u8>, WordsLeft<'_>), Misread>
     ensures value { Reads result (first (dash_or (number_below (2 ^ 8))) words.entry) }
     ensures never_memory { IfErr result (λ e. e ≢ Misread.Memory) }
@@ -225,7 +225,7 @@ pub fn number_or_dash_word(words: WordsLeft<'_>) -> Result<(Option<u8>, WordsLef
 ///
 /// # Errors
 ///
-/// `NotUnderstood` where no word is left, or it is empty; or `Memory`.
+/// `NotUnderstood` if no word is left, or it is empty; or `Memory`.
 pub fn text_or_dash_word(
     alloc: Global,
     words: WordsLeft<'_>,
@@ -243,21 +243,21 @@ pub fn text_or_dash_word(
     Ok((Some(text), rest))
 }
 
-/// What stands behind the letters that the word begins with.
+/// What follows the letters that the word begins with.
 pub fn behind<'a>(word: &'a str, letters: &str) -> Option<&'a str>
     ensures { option_copied result ≡ behind letters.now word.now }
 {
     word.strip_prefix(letters)
 }
 
-/// How many packets may wait where a line doesn't say.
+/// How many packets may wait if a line doesn't say.
 const HELD: usize = 4096;
 
-/// The number of packets that the last word says; 4,096 where no word is left.
+/// The number of packets that the last word says; 4,096 if no word is left.
 ///
 /// # Errors
 ///
-/// `NotUnderstood` where the word is no number, or another stands behind it.
+/// `NotUnderstood` if the word is no number, or another follows it.
 pub fn held_value(words: WordsLeft<'_>) -> Result<usize, Misread>
     ensures { Reads result (held_value words.entry) }
 {
@@ -271,11 +271,11 @@ pub fn held_value(words: WordsLeft<'_>) -> Result<usize, Misread>
     Ok(held as usize)
 }
 
-/// The text of the last word `mid=TEXT`; none where no word is left.
+/// The text of the last word `mid=TEXT`; none if no word is left.
 ///
 /// # Errors
 ///
-/// `NotUnderstood` where the word begins with something else, or another stands behind it; or `Memory`.
+/// `NotUnderstood` if the word begins with something else, or another follows it; or `Memory`.
 pub fn mid_value(alloc: Global, words: WordsLeft<'_>) -> Result<Option<Word>, Misread>
     ensures { Reads result (mid_value words.entry) }
 {

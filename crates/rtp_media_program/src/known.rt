@@ -84,7 +84,7 @@ impl KnownEnd {
         self.is_made
     }
 
-    /// Whether a stream of this number was opened, which sends, or receives where `is_sender` doesn't hold.
+    /// Whether a stream of this number was opened, which sends, or receives if `is_sender` doesn't hold.
     pub fn has_stream(&self, number: u64, is_sender: bool) -> bool
         ensures { result ≡ has_stream self.now number is_sender }
     {
@@ -255,10 +255,10 @@ impl Known {
         None
     }
 
-    /// Notes a reply to a line: at `b` where it isn't about `a`, since a run is received there.
+    /// Notes a reply to a line: at `b` if it isn't about `a`, since a run is received there.
     ///
     /// # Errors
-    /// Where memory runs out, and then it notes no stream that the line opens.
+    /// If memory runs out, and then it notes no stream that the line opens.
     pub fn note(&mut self, alloc: Global, line: &str, reply: &str) -> Result<(), AllocError>
         ensures noted { OnOk result (self.new ≡ noted self.old line.now reply.now) }
         ensures unchanged { OnErr result (self.new ≡ self.old) }

@@ -34,11 +34,11 @@ pub enum Line {
 
 impl Line {
     /// What a line says, without its line feed: words of UTF-8 text that are parted by exactly
-    /// one blank. `None` where it isn't understood: at an unknown first word, a wrong number of
+    /// one blank. `None` if it isn't understood: at an unknown first word, a wrong number of
     /// words, an empty word, or a word that isn't of its kind.
     ///
     /// # Errors
-    /// Only where memory runs out.
+    /// Only if memory runs out.
     pub fn parse(alloc: Global, bytes: &[u8]) -> Result<Option<Line>, AllocError>
         ensures { IfOk result (λ line. line ≡ line_of bytes.now) }
     {
@@ -133,7 +133,7 @@ fn send_of(alloc: Global, words: WordsLeft<'_>) -> Result<Command, Misread>
     rest_of_send(alloc, letter, mid, ssrc as u32, pt as u8, rest)
 }
 
-/// The words of a `send` line behind its payload type.
+/// The words of a `send` line after its payload type.
 fn rest_of_send(
     alloc: Global,
     letter: Letter,

@@ -42,7 +42,7 @@ fn has_error_line(replies: &[Reply]) -> bool
     replies.iter().any(|reply| reply.is_error_line())
 }
 
-/// The replies to a line, which is `None` where it is too long.
+/// The replies to a line, which is `None` if it is too long.
 fn replies_to<A: Respond>(
     alloc: Global,
     line: Option<&[u8]>,
@@ -156,7 +156,7 @@ fn take_end<W: Write, A: Respond>(
 /// [`MAX_LINE_LENGTH`] bytes, or isn't understood, is answered by `error line`.
 ///
 /// # Errors
-/// At the first read or write that fails, where the input doesn't end within [`MAX_READS`]
+/// At the first read or write that fails, if the input doesn't end within [`MAX_READS`]
 /// reads, and where memory runs out. What is written then is a front of the replies to the first lines.
 pub fn run_lines<R: Read, W: Write, A: Respond>(
     alloc: Global,
@@ -178,7 +178,7 @@ pub fn run_lines<R: Read, W: Write, A: Respond>(
 /// Answers lines that are at hand by `responder`, as [`run_lines`] does; what it would write, and its status.
 ///
 /// # Errors
-/// Where memory runs out, and where the lines don't end within [`MAX_READS`] reads of 4,096 bytes.
+/// If memory runs out, and where the lines don't end within [`MAX_READS`] reads of 4,096 bytes.
 pub fn answer_lines<A: Respond>(
     alloc: Global,
     lines: &[u8],

@@ -48,10 +48,10 @@ fn drafted_row(command: &RowCommand, clock_rate: Frequency) -> PayloadParams
     }
 }
 
-/// Puts a row into the draft: an error line, where its clock rate is 0.
+/// Puts a row into the draft: an error line, if its clock rate is 0.
 ///
 /// # Errors
-/// Where memory runs out.
+/// If memory runs out.
 pub fn draft_row(
     alloc: Global,
     kept: &mut EndAndDraft,
@@ -66,10 +66,10 @@ pub fn draft_row(
     one(alloc, Reply::Done)
 }
 
-/// Puts a header extension into the draft: an error line, where its number isn't one of 1 to 16.
+/// Puts a header extension into the draft: an error line, if its number isn't one of 1 to 16.
 ///
 /// # Errors
-/// Where memory runs out.
+/// If memory runs out.
 pub fn draft_ext(
     alloc: Global,
     kept: &mut EndAndDraft,
@@ -88,7 +88,7 @@ pub fn draft_ext(
 /// Makes an end of a draft, which is emptied, refused or not.
 ///
 /// # Errors
-/// Where memory for the reply runs out; a refusal is a reply.
+/// If memory for the reply runs out; a refusal is a reply.
 #[tactic(auto, using(rtp_media_ends::proofs::BareSession::refused_bare))]
 pub fn make_end(
     alloc: Global,
@@ -113,7 +113,7 @@ pub fn make_end(
 /// Makes the fixed end: of one section, `0`, with Opus under type 111, and SSRC 44 at both sides.
 ///
 /// # Errors
-/// Where memory for the reply runs out.
+/// If memory for the reply runs out.
 pub fn make_fixed(alloc: Global, end: &mut Option<End>) -> Result<Vec<Reply>, AllocError>
     ensures { IfOk result (λ replies. AnswersFixed end.old end.new replies.items) }
 {

@@ -69,7 +69,7 @@ impl Word {
     /// A copy of the text.
     ///
     /// # Errors
-    /// Only where memory runs out.
+    /// Only if memory runs out.
     pub fn from_str(alloc: Global, text: &str) -> Result<Word, AllocError>
         ensures { IfOk result (λ owned. owned ≡ text.now) }
     {

@@ -72,10 +72,10 @@ pub struct PlayCommand {
     pub items: PlayItems,
 }
 
-/// What the words behind the first one of `queue TIME HEX` say.
+/// What the words after the first one of `queue TIME HEX` say.
 ///
 /// # Errors
-/// `NotUnderstood` where they aren't such words, `Memory` where memory runs out.
+/// `NotUnderstood` if they aren't such words, `Memory` if memory runs out.
 #[tactic(auto, unfolding(crate::specs::PlayLines::queue_of))]
 pub fn queue_of(alloc: Global, words: WordsLeft<'_>) -> Result<Command, Misread>
     ensures { Reads result (queue_of words.entry) }
@@ -86,10 +86,10 @@ pub fn queue_of(alloc: Global, words: WordsLeft<'_>) -> Result<Command, Misread>
     Ok(Command::Queue(QueueCommand { time, sample }))
 }
 
-/// What the words behind the first one of `play TX RX ITEM..` say.
+/// What the words after the first one of `play TX RX ITEM..` say.
 ///
 /// # Errors
-/// `NotUnderstood` where they aren't such words, `Memory` where memory runs out.
+/// `NotUnderstood` if they aren't such words, `Memory` if memory runs out.
 #[tactic(auto, unfolding(crate::specs::PlayLines::play_of))]
 pub fn play_of(alloc: Global, words: WordsLeft<'_>) -> Result<Command, Misread>
     ensures { Reads result (play_of words.entry) }

@@ -22,7 +22,7 @@ use std::mem;
 /// Keeps a sample for a run.
 ///
 /// # Errors
-/// Where memory runs out.
+/// If memory runs out.
 pub(crate) fn keep_sample(
     alloc: Global,
     queue: &mut Vec<QueueCommand>,
@@ -35,11 +35,11 @@ pub(crate) fn keep_sample(
     one(alloc, Reply::Done)
 }
 
-/// Sends the kept samples at `a`, and lets a schedule happen at `b`: an error line, where an end or a stream is none; a
+/// Sends the kept samples at `a`, and lets a schedule happen at `b`: an error line, if an end or a stream is none; a
 /// refusal is printed by its name.
 ///
 /// # Errors
-/// Where memory for samples, the schedule or replies runs out.
+/// If memory for samples, the schedule or replies runs out.
 pub(crate) fn play_ends(
     alloc: Global,
     a: &mut Option<End>,
@@ -66,7 +66,7 @@ pub(crate) fn play_ends(
     play_kept(alloc, a, b, kept, command)
 }
 
-/// The same where both streams are there.
+/// The same if both streams are there.
 fn play_kept(
     alloc: Global,
     a: &mut End,

@@ -164,7 +164,7 @@ fn answer(alloc: Global, kept: &mut EndAndDraft, command: Command) -> Result<Vec
     }
 }
 
-/// Answers a command that needs an end: an error line, where there is none.
+/// Answers a command that needs an end: an error line, if there is none.
 fn answer_end(
     alloc: Global,
     end: &mut Option<End>,
@@ -203,7 +203,7 @@ fn answer_at(alloc: Global, end: &mut End, command: Command) -> Result<Vec<Reply
 /// Reads lines to the end of the input, answers each over two ends, and writes the replies.
 ///
 /// # Errors
-/// At the first read or write that fails, where the input doesn't end within 16,777,216 reads, and
+/// At the first read or write that fails, if the input doesn't end within 16,777,216 reads, and
 /// where memory for a line or its replies runs out. What is written then is a front of the replies to the first lines.
 pub fn run<R: Read, W: Write>(
     alloc: Global,

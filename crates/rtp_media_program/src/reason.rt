@@ -2,7 +2,7 @@
 
 use std::fmt;
 
-/// Why a line is an `error line`, or was refused: texts that are read one behind the other.
+/// Why a line is an `error line`, or was refused: texts that are read one after the other.
 #[derive(Clone, Copy)]
 pub struct Reason<'a> {
     pub(crate) parts: [&'a str; 7],

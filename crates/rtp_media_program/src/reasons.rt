@@ -14,7 +14,7 @@ use crate::refusals::refusal_of;
 /// The reason for a line that is too long names this number.
 const _: () = prove!(MAX_LINE_LENGTH == 1_048_576);
 
-/// Why the reply to a line says no, where it does.
+/// Why the reply to a line says no, if it does.
 pub fn reason_for<'a>(known: &Known, line: &'a [u8], reply: &str) -> Option<Reason<'a>>
     ensures { is_some result ≡ (is_error_line reply.now || says_no reply.now) }
 {
@@ -70,7 +70,7 @@ fn unfit_word<'a>(form: &'static str, line: &'a str) -> Option<Reason<'a>> {
     missing(form, names.next()?)
 }
 
-/// The name of a form's further words, where it has one.
+/// The name of a form's further words, if it has one.
 fn further_name(form: &str) -> Option<&str> {
     let (_, last) = form.rsplit_once(' ')?;
     if last.ends_with("..") {
@@ -85,7 +85,7 @@ fn left_over<'a>(form: &'a str, word: &'a str) -> Reason<'a> {
     Reason { parts }
 }
 
-/// No word stands for a name of the form, where it needs one.
+/// No word stands for a name of the form, if it needs one.
 fn missing<'a>(form: &'a str, name: &'a str) -> Option<Reason<'a>> {
     if name.ends_with("..") || name.ends_with(']') {
         return None;

@@ -1,4 +1,4 @@
-//! What the program replies where it says no, in words.
+//! What the program replies if it says no, in words.
 
 ghost use Rattle.std.specs.Prelude.{◌≡◌, is_some};
 ghost use Rattle.rtp_media_program.specs.ExplainedReplies.{says_no};
@@ -85,7 +85,7 @@ const REFUSALS: [(&str, &str); 22] = [
     ("refused Memory", "memory runs out"),
 ];
 
-/// Why a reply says no, where it does.
+/// Why a reply says no, if it does.
 pub(crate) fn refusal_of(reply: &str) -> Option<Reason<'static>>
     ensures { is_some result ≡ says_no reply.now }
 {

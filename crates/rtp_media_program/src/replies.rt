@@ -9,7 +9,7 @@ use std::alloc::{AllocError, Global};
 /// One reply.
 ///
 /// # Errors
-/// Where memory runs out.
+/// If memory runs out.
 pub fn one(alloc: Global, reply: Reply) -> Result<Vec<Reply>, AllocError>
     ensures { IfOk result (λ replies. Prints replies.items reply) }
 {

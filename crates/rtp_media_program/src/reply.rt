@@ -98,7 +98,7 @@ impl Reply {
     /// The line that is printed, its line feed included.
     ///
     /// # Errors
-    /// Only where memory runs out.
+    /// Only if memory runs out.
     pub fn text(&self, alloc: Global) -> Result<String, AllocError>
         ensures { IfOk result (λ text. string_bytes text ≡ reply_text self.now) }
     {
@@ -139,7 +139,7 @@ impl Reply {
     /// Prints the line at the end of `out`.
     ///
     /// # Errors
-    /// Only where memory runs out; `out` is then unchanged.
+    /// Only if memory runs out; `out` is then unchanged.
     pub fn append_to(&self, alloc: Global, out: &mut Vec<u8>) -> Result<(), AllocError>
         ensures ok { OnOk result (out.new.items ≡ out.old.items ++ reply_text self.now) }
         ensures err { OnErr result (out.new.items ≡ out.old.items) }
@@ -212,7 +212,7 @@ fn hex_text(alloc: Global, bytes: &Bytes) -> Result<String, AllocError>
 /// Prints replies one after the other.
 ///
 /// # Errors
-/// Only where memory runs out.
+/// Only if memory runs out.
 pub fn print(alloc: Global, replies: &[Reply]) -> Result<Vec<u8>, AllocError>
     ensures { IfOk result (λ text. text.items ≡ flat_map reply_text replies.now) }
 {

@@ -8,7 +8,7 @@ use crate::command::Command;
 use crate::reply::Reply;
 use std::alloc::{AllocError, Global};
 
-/// What stands behind the lines: it answers one command after the other.
+/// What follows the lines: it answers one command after the other.
 pub trait Respond {
     /// From the first state to the second a command may give these replies.
     ghost gives: { Self → Command → Self → List Reply → Type 0 };
@@ -16,7 +16,7 @@ pub trait Respond {
     /// The replies to a command, in the order in which they are printed.
     ///
     /// # Errors
-    /// Only where memory for the replies runs out, which ends the run.
+    /// Only if memory for the replies runs out, which ends the run.
     fn respond(&mut self, alloc: Global, command: Command) -> Result<Vec<Reply>, AllocError>
         ensures { IfOk result (λ replies. gives self.old command self.new replies.items) };
 }

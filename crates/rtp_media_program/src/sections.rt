@@ -122,7 +122,7 @@ fn direction_of(word: &str) -> Option<Direction>
     }
 }
 
-/// The text before the first plus sign, and what stands behind that sign.
+/// The text before the first plus sign, and what follows that sign.
 fn split_plus(text: &str) -> (&str, Option<&str>)
     ensures { plus_parts text.now ≡ result.0.now ∷ plus_parts_in (option_copied result.1) }
 {
@@ -154,7 +154,7 @@ fn end_of_plus_parts(parts: Option<&str>) -> Result<(), Misread>
     }
 }
 
-/// The source that repairs, of the parts behind a source.
+/// The source that repairs, of the parts after a source.
 fn repair_of(parts: Option<&str>) -> Result<Option<u32>, Misread>
     ensures value { Reads result (repair_of (plus_parts_in (option_copied parts.entry))) }
     ensures never_memory { IfErr result (λ e. e ≢ Misread.Memory) }
@@ -180,7 +180,7 @@ fn source_of(word: &str) -> Result<SourceWord, Misread>
     Ok(SourceWord { ssrc, repair })
 }
 
-/// The sources that stand between single commas, or none at a dash.
+/// The sources that are between single commas, or none at a dash.
 fn sources_of(alloc: Global, word: &str) -> Result<Sources, Misread>
     ensures { Reads result (sources_of word.now) }
 {
@@ -197,7 +197,7 @@ fn sources_of(alloc: Global, word: &str) -> Result<Sources, Misread>
     Ok(Sources { items })
 }
 
-/// The text before the first colon, and what stands behind that colon.
+/// The text before the first colon, and what follows that colon.
 fn split_colon(text: &str) -> (&str, Option<&str>)
     ensures { colon_parts text.now ≡ result.0.now ∷ colon_parts_in (option_copied result.1) }
 {
@@ -249,7 +249,7 @@ fn section_of(alloc: Global, word: &str) -> Result<SectionWord, Misread>
 ///
 /// # Errors
 ///
-/// `NotUnderstood` where a word is no section; or `Memory`.
+/// `NotUnderstood` if a word is no section; or `Memory`.
 pub fn section_words(alloc: Global, words: WordsLeft<'_>) -> Result<Sections, Misread>
     ensures { Reads result (sections_of words.entry) }
 {
@@ -262,11 +262,11 @@ pub fn section_words(alloc: Global, words: WordsLeft<'_>) -> Result<Sections, Mi
     Ok(Sections { items })
 }
 
-/// The sections of the words before a slash, and the words behind it.
+/// The sections of the words before a slash, and the words after it.
 ///
 /// # Errors
 ///
-/// `NotUnderstood` where there is no slash, or a word before it is no section; or `Memory`.
+/// `NotUnderstood` if there is no slash, or a word before it is no section; or `Memory`.
 pub fn sections_before_slash(
     alloc: Global,
     words: WordsLeft<'_>,

@@ -18,7 +18,7 @@ pub enum Status {
 }
 
 impl Status {
-    /// The program's exit status: 0, or 2 where an `error line` was printed.
+    /// The program's exit status: 0, or 2 if an `error line` was printed.
     pub fn code(self) -> u8
         ensures { result ≡ code_of self }
     {

@@ -52,10 +52,10 @@ fn params_of(command: SendCommand) -> StreamParams
     }
 }
 
-/// Opens a sending stream: an error line, where its parameters aren't sound; a refusal is printed by its name.
+/// Opens a sending stream: an error line, if its parameters aren't sound; a refusal is printed by its name.
 ///
 /// # Errors
-/// Where memory for the reply runs out.
+/// If memory for the reply runs out.
 pub fn send(alloc: Global, end: &mut End, command: SendCommand) -> Result<Vec<Reply>, AllocError>
     ensures { IfOk result (λ replies. IsAnswered end.old (Command.Send command) end.new replies.items) }
 {
@@ -72,10 +72,10 @@ pub fn send(alloc: Global, end: &mut End, command: SendCommand) -> Result<Vec<Re
     }
 }
 
-/// Opens a receiving stream: an error line, where it may not hold as many packets; a refusal is printed by its name.
+/// Opens a receiving stream: an error line, if it may not hold as many packets; a refusal is printed by its name.
 ///
 /// # Errors
-/// Where memory for the reply runs out.
+/// If memory for the reply runs out.
 pub fn open(alloc: Global, end: &mut End, command: OpenCommand) -> Result<Vec<Reply>, AllocError>
     ensures { IfOk result (λ replies. IsAnswered end.old (Command.Open command) end.new replies.items) }
 {
@@ -91,10 +91,10 @@ pub fn open(alloc: Global, end: &mut End, command: OpenCommand) -> Result<Vec<Re
     }
 }
 
-/// Sends a sample: an error line, where there is no such stream; a refusal is printed by its name.
+/// Sends a sample: an error line, if there is no such stream; a refusal is printed by its name.
 ///
 /// # Errors
-/// Where memory for replies runs out.
+/// If memory for replies runs out.
 pub fn sample(
     alloc: Global,
     end: &mut End,
@@ -144,7 +144,7 @@ fn datagram_replies(alloc: Global, datagrams: Vec<Datagram>) -> Result<Vec<Reply
 /// Hands an end a datagram, and prints what it says of it.
 ///
 /// # Errors
-/// Where memory for the reply runs out.
+/// If memory for the reply runs out.
 pub fn receive(
     alloc: Global,
     end: &mut End,
@@ -158,10 +158,10 @@ pub fn receive(
     }
 }
 
-/// Asks a receiving stream for its next unit: an error line, where there is no such stream.
+/// Asks a receiving stream for its next unit: an error line, if there is no such stream.
 ///
 /// # Errors
-/// Where memory for the reply runs out.
+/// If memory for the reply runs out.
 pub fn poll(alloc: Global, end: &mut End, command: PollCommand) -> Result<Vec<Reply>, AllocError>
     ensures { IfOk result (λ replies. IsAnswered end.old (Command.Poll command) end.new replies.items) }
 {
@@ -174,10 +174,10 @@ pub fn poll(alloc: Global, end: &mut End, command: PollCommand) -> Result<Vec<Re
     }
 }
 
-/// Sends a datagram again: an error line, where there is no such stream; a refusal is printed by its name.
+/// Sends a datagram again: an error line, if there is no such stream; a refusal is printed by its name.
 ///
 /// # Errors
-/// Where memory for the reply runs out.
+/// If memory for the reply runs out.
 pub fn repair(
     alloc: Global,
     end: &mut End,

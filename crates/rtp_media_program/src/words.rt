@@ -37,11 +37,11 @@ impl<'a> WordsLeft<'a> {
         WordsLeft { rest: Some(line) }
     }
 
-    /// The first word, and the words behind it.
+    /// The first word, and the words after it.
     ///
     /// # Errors
     ///
-    /// `NotUnderstood` where no word is left.
+    /// `NotUnderstood` if no word is left.
     pub fn next(self) -> Result<(&'a str, WordsLeft<'a>), Misread>
         ensures found { IfOk result (λ x. self.entry ≡ x.0.now ∷ x.1) }
         ensures none { IfErr result (λ e. (e ≡ Misread.NotUnderstood) × (self.entry ≡ [])) }
@@ -57,7 +57,7 @@ impl<'a> WordsLeft<'a> {
     ///
     /// # Errors
     ///
-    /// `NotUnderstood` where one is.
+    /// `NotUnderstood` if one is.
     pub fn end(self) -> Result<(), Misread>
         ensures value { Reads result (ended self.entry tt) }
         ensures never_memory { IfErr result (λ e. e ≢ Misread.Memory) }
@@ -69,7 +69,7 @@ impl<'a> WordsLeft<'a> {
     }
 }
 
-/// The first word, and what stands behind its blank.
+/// The first word, and what follows its blank.
 fn split_word(line: &str) -> (&str, Option<&str>)
     ensures { words_of line.now ≡ result.0.now ∷ words_in (option_copied result.1) }
 {

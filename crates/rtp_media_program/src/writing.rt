@@ -13,7 +13,7 @@ pub struct WriteFault;
 /// Writes all the bytes, in as many writes as it takes.
 ///
 /// # Errors
-/// Where a write fails or takes no bytes: a front of the bytes, and not all, has then been written.
+/// If a write fails or takes no bytes: a front of the bytes, and not all, has then been written.
 pub fn write_whole<W: Write>(writer: &mut W, bytes: &[u8]) -> Result<(), WriteFault>
     ensures ok { OnOk result (Appends (W.contents writer.old) (W.contents writer.new) bytes.now) }
     ensures err { OnErr result (AppendsFront (W.contents writer.old) (W.contents writer.new) bytes.now) }

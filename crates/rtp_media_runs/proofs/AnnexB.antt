@@ -1,4 +1,4 @@
--- Units of a codec behind start codes, which a second sender sends as they are.
+-- Units of a codec after start codes, which a second sender sends as they are.
 use Rattle.std.proofs.Common.{◌≡◌, ℕ, zero, false, List, [], ◌∷◌, ◌++◌, map, refl, sym, ap, ap₂, subst, ◌∙◌}
 use Rattle.h26x_payload_units.specs.Cut.{AreUnits, text_of}
 use Rattle.h26x_payload_units.specs.Units.{ComesBack, UnitsLaw, units_of}
@@ -58,7 +58,7 @@ module _ (units_law : UnitsLaw) (back : ComesBack) (coding : Coding) (rules : Ru
   all-sound : EachUnit (IsSoundSet IsSendable) (units_of x)
   all-sound = sound-units rules IsSendable (limit_of limit) (units_of x) (units_law x) (by.sendable limit x good) kept
 
-  -- the sets that wait behind, where the second sender has none
+  -- the sets that wait after, if the second sender has none
   none-behind : (after : Sender) → after.waiting ≡ emptied (waiting_after rules s.waiting (units_of x))
       → HasNone rules IsSendable (coding.after s limit x) after
   none-behind after none =

@@ -60,7 +60,7 @@ answering_of_type rows dictated (one ∷ others) row i =
       | inr j ↦ answering_of_type rows dictated others row j
     ]
 
--- one more is put behind them, if it isn't among them yet
+-- one more is put after them, if it isn't among them yet
 one_added : (rows seen : List Row) (row : Row) → AllOfType rows seen → IsOfType rows row
     → Adds seen row (with_once seen row)
 unfolding with_once

@@ -29,7 +29,7 @@ has_name mid sections i =
     let r = member_with name_of mid sections i in
     in_any (has_mid mid) sections r.0 r.1 ((bytes_eq-Decides r.0.mid mid).1 r.2)
 
--- one section goes from those behind to those before
+-- one section goes from those after to those before
 moved : (before : List Wanted) (section : Wanted) (rest : List Wanted)
     → names_of (before ++ section ∷ []) ++ names_of rest ≡ names_of before ++ names_of (section ∷ rest)
 moved before section rest = ap (λ names. names ++ names_of rest) (map-append name_of before (section ∷ []))

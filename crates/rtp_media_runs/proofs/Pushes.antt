@@ -57,7 +57,7 @@ first-none : (o later : Option SampleError) → first_refusal o later ≡ None �
 first-none None later h = (refl, h)
 first-none (Some e) later h = cc h
 
--- what refuses the sample behind accepted ones refuses the samples up to it, and all
+-- what refuses the sample after accepted ones refuses the samples up to it, and all
 refusal-more : (xs : List Sample) (s : Sending) (i : ℕ) (d : Sample) → i < length xs
     → refusal_of_samples s (take i xs) ≡ None →
     refusal_for (after_samples s (take i xs)) (slice_index_or xs i d) ≡ None
@@ -80,7 +80,7 @@ refusal-at (x ∷ xs) s (suc i) d e lt before here =
     first-none (refusal_for s x) (refusal_of_samples (stepped s x) (take i xs)) before in
     ap₂ first_refusal parts.0 (refusal-at xs (stepped s x) i d e (omega arith) parts.1 here)
 
--- it is refused as the last of so many
+-- it is refused as the last of this many
 refusal-here : (xs : List Sample) (s : Sending) (i : ℕ) (d : Sample) (e : SampleError) → i < length xs
     → refusal_of_samples s (take i xs) ≡ None →
     refusal_for (after_samples s (take i xs)) (slice_index_or xs i d) ≡ Some e
@@ -181,7 +181,7 @@ fails-at before now next tx i samples datagrams is failed others =
       others = others ∙ replaced before now tx i samples datagrams (sender_at next tx) is;
     }
 
--- or behind it
+-- or after it
 pub stops-behind : (before now : EndState) (tx i : ℕ) (samples : List Sample) (datagrams : List (List ℕ))
     → IsPushed before tx samples i now datagrams → PushesSome before tx samples now
 stops-behind before now tx i samples datagrams is =

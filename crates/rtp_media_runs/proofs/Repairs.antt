@@ -73,7 +73,7 @@ was-repaired s None bytes e = absurd cc
 was-repaired s (Some d) bytes e =
     let same : repair s d ≡ Ok bytes = cc in record { datagram = d; there = refl; is = same }
 
--- what stands at a place
+-- what is at a place
 pub got : (ds : List (List ℕ)) (k : ℕ) (d : List ℕ) → slice_get ds k ≡ Some d
     → (k < length ds) × (d ≡ slice_index_or ds k [])
 got [] k d e = absurd cc

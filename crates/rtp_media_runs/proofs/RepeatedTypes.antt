@@ -27,7 +27,7 @@ not_there before t n = false_from_ne_true (is_among before t) (λ e. n (among be
 one_more : (before : List ℕ) (t : ℕ) → AreDistinct before → is_among before t ≡ false → AreDistinct (before ++ t ∷ [])
 one_more before t d e = distinct_more t before d (λ i. both_ways (is_among before t) e (is_there before t i))
 
--- a type that is among those before it is the one; else one behind it may be
+-- a type that is among those before it is the one; else one after it may be
 here : (before : List ℕ) (t : ℕ) (rest : List ℕ) → is_among before t ≡ true
     → first_repeated before (t ∷ rest) ≡ Some t
 here before t rest e = ap (λ (b : Bool). if b then Some t else first_repeated (before ++ t ∷ []) rest) e

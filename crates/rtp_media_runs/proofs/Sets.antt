@@ -50,7 +50,7 @@ pub each-behind : (P : List ℕ → Type 0) (us vs : List (List ℕ)) → EachUn
 each-behind P [] vs all others = others
 each-behind P (u ∷ us) vs all others = (all.0, each-behind P us vs all.1 others)
 
--- a set is put behind as many places
+-- a set is put after as many places
 put-behind : (front : Waiting) (set : List ℕ) (ws : Waiting) → put_at (length front) set (front ++ None ∷ ws)
     ≡ front ++ Some set ∷ ws
 put-behind [] set ws = refl
@@ -100,7 +100,7 @@ module _ (rules : Rules) (limit : ℕ) where
     ap (λ (q : Role). waiting_after rules (waiting_behind rules q ws u) us) is,
   )
 
-  -- the sets that a unit takes out, and the places behind it
+  -- the sets that a unit takes out, and the places after it
   abbrev taken : Bool → Bool → Waiting → List (List ℕ)
   taken ready joins ws = if ready then (if joins then sets_in ws else []) else []
 
@@ -147,7 +147,7 @@ module _ (rules : Rules) (limit : ℕ) where
         waiting = there.1 ∙ same.waiting;
       }
 
-  -- a unit behind the sets that it takes out
+  -- a unit after the sets that it takes out
   together-again : (ws after : Waiting) (u : List ℕ) (us : List (List ℕ)) → AreInPlace rules zero ws
       → rules.role u ≡ Leaves → rules.can_leave limit u ≡ true → are_ready rules.needed ws ≡ true
       → rules.can_join limit (sets_in ws) ≡ true → AreSame (emptied ws) us after

@@ -26,7 +26,7 @@ pub record IsSoundSet (IsSendable : List ℕ → Type 0) (set : List ℕ) : Type
   pub sendable : IsSendable set
   pub end : EndsInNoZero set
 
--- The second sender holds back no parameter set where the first does: sets arrive together with the unit that made them
+-- The second sender holds back no parameter set if the first does: sets arrive together with the unit that made them
 -- leave.
 pub record HasNone (rules : Rules) (IsSendable : List ℕ → Type 0) (first second : Sender) : Type 0 where
   pub in_place : AreInPlace rules zero first.waiting

@@ -13,7 +13,7 @@ use std::alloc::{AllocError, Global};
 /// Pushes samples at a sending stream, and returns their datagrams, in order.
 ///
 /// # Errors
-/// What the first refused sample is refused for; those before it were pushed. `SampleError::Memory` also where memory
+/// What the first refused sample is refused for; those before it were pushed. `SampleError::Memory` also if memory
 /// for the list of datagrams runs out.
 pub(crate) fn push_samples(
     alloc: Global,
@@ -38,7 +38,7 @@ pub(crate) fn push_samples(
     Ok(datagrams)
 }
 
-/// Puts datagrams behind others.
+/// Puts datagrams after others.
 fn append(datagrams: &mut Vec<Datagram>, more: Vec<Datagram>) -> Result<(), AllocError>
     ensures { OnOk result (datagrams.new.items ≡ datagrams.old.items ++ more.items) }
 {

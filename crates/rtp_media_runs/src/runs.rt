@@ -37,7 +37,7 @@ use std::alloc::{AllocError, Global};
 ///
 /// # Errors
 /// What the first refused sample is refused for: those before it were pushed, and nothing of the schedule happens.
-/// `SampleError::Memory` where memory runs out, at a sample, a datagram or a poll, after a part was done.
+/// `SampleError::Memory` if memory runs out, at a sample, a datagram or a poll, after a part was done.
 pub fn play(
     alloc: Global,
     a: &mut End,
@@ -175,7 +175,7 @@ fn repair_at(
     }
 }
 
-/// Puts an answer behind others, if there is one.
+/// Puts an answer after others, if there is one.
 fn keep(all: &mut Vec<Played>, answer: Option<Played>) -> Result<(), AllocError>
     ensures { OnOk result (all.new.items ≡ all.old.items ++ option_to_list answer) }
 {

@@ -206,7 +206,7 @@ module _ (format : Format) (sender : Sender) (m : ℕ) (g : SentFrame) (sent : B
   meta-of j h = get_or-map (λ (p : Packet). p.meta) between j no_packet no_packet.meta
       (omega (arith, length-between)) ∙ ap (λ (p : Packet). p.meta) (between-at j h)
 
-  -- what is known of the packet behind so many others
+  -- what is known of the packet after so many others
   number-of : (j : ℕ) → f.start + j < f.end → (meta_at (metas_of between) j).seq_no ≡ a + j
   number-of j h = ap (λ (r : RtpMeta). r.seq_no) (meta-of j h)
 

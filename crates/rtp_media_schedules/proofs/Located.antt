@@ -1,4 +1,4 @@
--- The sent frame in which a number stands.
+-- The sent frame in which a number is.
 use Rattle.std.proofs.Common.{◌≡◌, ℕ, ◌+◌, ◌<◌, ◌≤◌, arith, List, [], ◌∷◌, length, inl, inr}
 use Rattle.std.specs.Prelude.{Ok, Some}
 use Rattle.std.proofs.lemmas.Bool.{cases_lt}
@@ -17,7 +17,7 @@ AreBrought sender n [] = Unit {0}
 AreBrought sender n (f ∷ fs) = Brings sender n f × AreBrought sender (n + length f.packets) fs
 
 module _ (format : Format) (sender : Sender) where
-  -- the frame in which a number stands, and those behind it
+  -- the frame in which a number is, and those after it
   pub record Located (n : ℕ) (fs : List SentFrame) (a : ℕ) : Type 0 where
     pub from : ℕ
     pub frame : SentFrame

@@ -50,7 +50,7 @@ Rises-drop lo hi (suc n) [] r = tt
 Rises-drop lo hi (suc n) (x ∷ xs) r = Rises-less lo (x + 1) hi (omega (arith, r.0)) (drop n xs)
     (Rises-drop (x + 1) hi n xs r.2)
 
--- behind a place all is above the number there
+-- after a place all is above the number there
 pub Rises-behind : (lo hi k : ℕ) (xs : List ℕ) → k < length xs → Rises lo hi xs
     → Rises (get_or xs k 0 + 1) hi (drop (suc k) xs)
 Rises-behind lo hi k [] h r = absurd (omega arith)

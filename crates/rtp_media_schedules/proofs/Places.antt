@@ -92,7 +92,7 @@ module _ (sender : Sender) where
             (place-step (p lo) x lo _ _ l (held_with-place p x (lo + 1) m (omega arith) (omega arith) n))
       ]
 
--- at most k of the numbers pass, where none from lo + k on does
+-- at most k of the numbers pass, if none from lo + k on does
 pub length-filter-few : (p : ℕ → Bool) (lo m k : ℕ) → ((y : ℕ) → lo + k ≤ y → p y ≡ false)
     → length (filter p (range_with_len lo m)) ≤ k
 length-filter-few p lo zero k none = omega arith

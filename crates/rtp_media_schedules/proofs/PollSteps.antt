@@ -49,7 +49,7 @@ step-stops format s k is = go (due_frame format s.cutoff s.holding.hold_back s.h
     stays = ap (with_kept s) is.1;
   }
 
--- a drain answers None only where no frame is complete
+-- a drain answers None only if no frame is complete
 something : (o : Option PacketError) (metas : List RtpMeta) (bytes : List ℕ) (extra : CodecExtra)
     → answer_by o metas bytes extra ≢ Ok None
 something None metas bytes extra h = cc

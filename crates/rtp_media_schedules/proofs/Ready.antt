@@ -1,4 +1,4 @@
--- When the next frame is due: exactly where all of its packets came.
+-- When the next frame is due: if and only if all of its packets came.
 use Rattle.std.proofs.Common.{◌≡◌, ◌≢◌, ℕ, zero, suc, ◌+◌, ◌-◌, ◌<◌, ◌≤◌, refl, sym, ◌∙◌, ap, ap₂, subst, arith, Bool}
 use Rattle.std.proofs.Common.{true, false, cond, List, [], ◌∷◌, ◌++◌, length, map, get_or, inl, inr, true≢false}
 use Rattle.std.proofs.Common.{length-append, add-zero}
@@ -43,7 +43,7 @@ at-most-one : (o : Option Frame) (fs : List Frame) → length (cons_option o fs)
 at-most-one None fs = omega arith
 at-most-one (Some f) fs = omega arith
 
--- where nothing is given below k, so few are
+-- if nothing is given below k, so few are
 pub few-given : (h : ℕ → Option Frame) (k lo n : ℕ) → ((j : ℕ) → lo ≤ j → j < k → h j ≡ None)
     → length (filter_map h (range_with_len lo n)) ≤ n - (k - lo)
 few-given h k lo zero none = omega arith
@@ -233,7 +233,7 @@ module _ (format : Format) (sender : Sender) (m : ℕ) (g : SentFrame) (sent : B
       (omega arith) (omega (arith, length-held, is.not_empty))
       (λ j a b. no-frame j (omega arith)) (frame-there (length g.packets - 1) (omega (arith, is.not_empty)))
 
-  -- and it is due where it is next
+  -- and it is due if it is next
   pub due-front : (cutoff : Option ℕ) (hold_back : ℕ) → is_next cutoff m ≡ true
       → due_frame format cutoff hold_back held ≡ Some (front (length g.packets))
   due-front cutoff hold_back next =
@@ -309,7 +309,7 @@ module _ (format : Format) (sender : Sender) (m : ℕ) (g : SentFrame) (sent : B
       not-due cutoff hold_back (length (complete_frames format those)) (lowest_of (complete_frames format those))
       (λ f e. lowest_is format those f e) next (omega (arith, few-frames))
 
--- where nothing is held, none is due
+-- if nothing is held, none is due
 pub none-held : (format : Format) (cutoff : Option ℕ) (hold_back : ℕ) → due_frame format cutoff hold_back [] ≡ None
 unfolding frames_among
 none-held format cutoff hold_back = refl

@@ -168,7 +168,7 @@ module _ (format : Format) (sender : Sender) (first count opening : ℕ) (fits :
         go true e = arrives-again past next left s x is e
         go false e = arrives-anew past next left s x is good few e
 
-  -- a poll where the next frame came
+  -- a poll if the next frame came
   module _ (past : List ℕ) (next : ℕ) (f : SentFrame) (fs : List SentFrame) (s : Stream)
       (is : IsReached past next (sizes (f ∷ fs)) s) (sent : Brings sender next f)
       (frame : IsFrameOf format f.packets f.parts)
@@ -254,7 +254,7 @@ module _ (format : Format) (sender : Sender) (first count opening : ℕ) (fits :
         within = is.within;
       }
 
-  -- where a number is missing, fewer than the reach above it came
+  -- if a number is missing, fewer than the reach above it came
   few-above : (past : List ℕ) (x n : ℕ) (w : Option Window) → WindowIs first past w → first ≤ x → is_among past x
       ≡ false → length (filter (is_among past) (range_with_len (x + 1) n)) ≤ reach_below
   few-above past x n w is low missing = length-filter-few (is_among past) (x + 1) n reach_below none where
@@ -264,7 +264,7 @@ module _ (format : Format) (sender : Sender) (first count opening : ℕ) (fits :
       go true e = absurd (true≢false (sym (came-below first past w y x is e low (omega arith)) ∙ missing))
       go false e = e
 
-  -- a poll where a packet of the next frame is missing
+  -- a poll if a packet of the next frame is missing
   module _ (past : List ℕ) (next : ℕ) (f : SentFrame) (fs : List SentFrame) (s : Stream)
       (is : IsReached past next (sizes (f ∷ fs)) s) (sent : Brings sender next f)
       (frame : IsFrameOf format f.packets f.parts)
@@ -333,7 +333,7 @@ module _ (format : Format) (sender : Sender) (first count opening : ℕ) (fits :
     due-missing = ap (λ (ps : List Packet). due_frame format s.cutoff s.holding.hold_back ps) held-parts
         ∙ due-by s.cutoff refl
 
-  -- a poll where nothing is left
+  -- a poll if nothing is left
   due-ended : (past : List ℕ) (next : ℕ) (s : Stream) → IsReached past next [] s → next ≡ first + count
       → due format s ≡ None
   unfolding due

@@ -114,7 +114,7 @@ module _ (format : Format) (sender : Sender) (first count : ℕ) (fits : first +
   arrives past s x is sane = rw (true-number past s is x sane)
       (arrives-by past s x is sane (is_accepted s.window x) refl)
 
-  -- behind a frame all is above its last number
+  -- after a frame all is above its last number
   behind-frame : (past : List ℕ) (s : Stream) (f : Frame) → IsTrue past s → IsFrame format s.held f
       → IsTrue past (stream_behind format s (Some f))
   behind-frame past s f is frame =

@@ -50,7 +50,7 @@ abbrev pub canonical_units : ℕ → List SentSample → List Canonical
 canonical_units n [] = []
 canonical_units n (s ∷ ss) = units_in n s ++ canonical_units (n + length s.packets) ss
 
--- The number of packets up to each tail, where `open_` packets came before.
+-- The number of packets up to each tail, if `open_` packets came before.
 abbrev pub sizes_from : Format → ℕ → List MarkedPacket → List ℕ
 sizes_from format open_ [] = []
 sizes_from format open_ (p ∷ ps) = if format.tail p.marker p.payload then (open_ + 1) ∷ sizes_from format 0 ps

@@ -50,6 +50,6 @@ abbrev pub AreGoodArrivals : ℕ → ℕ → List ℕ → List ℕ → Type 0
 AreGoodArrivals first count past [] = AllCame first count past
 AreGoodArrivals first count past (x ∷ xs) = IsGoodArrival first count past x × AreGoodArrivals first count (x ∷ past) xs
 
--- How many of the numbers that came were not handed out, where `next` is the first that was not.
+-- How many of the numbers that came were not handed out, if `next` is the first that was not.
 abbrev pub waiting : ℕ → ℕ → List ℕ → ℕ → ℕ
 waiting first count past next = count_by (is_among past) (range_with_len next (first + count - next))

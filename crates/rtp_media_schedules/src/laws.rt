@@ -89,7 +89,7 @@ pub fn polls_come_to_an_end()
     ensures { (format : Format) (s : Stream) → EndsSilent (heard format s (replicate (suc (length s.held)) Poll)) }
 {}
 
-/// A poll that returns a unit or a fault leaves fewer packets held, and a drain returns None only where no frame is
+/// A poll that returns a unit or a fault leaves fewer packets held, and a drain returns None only if no frame is
 /// complete.
 pub fn poll_laws()
     ensures fewer { (format : Format) (s : Stream) → poll_answer format s ≢ Ok None

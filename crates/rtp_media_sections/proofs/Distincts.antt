@@ -15,7 +15,7 @@ is_other n m = not (m == n)
 other_way : (m n : ℕ) → (m == n) ≡ (n == m)
 other_way m n = grind (arith, nat_tests)
 
--- another value is among the rest where it is among all
+-- another value is among the rest if it is among all
 left_out : (x n : ℕ) → (x == n) ≡ false → (ns : List ℕ) → is_among (filter (is_other x) ns) n ≡ is_among ns n
 left_out x n e [] = refl
 left_out x n e (m ∷ ns) = at (m == x) refl (left_out x n e ns)
@@ -105,7 +105,7 @@ distinct_among xs ys h =
     all [] h = tt
     all (y ∷ ys) h = (inr h.0, all ys h.1)
 
--- new values behind a list stand as they are
+-- new values after a list are as they are
 none_other : (x : ℕ) (ys : List ℕ) → is_among ys x ≡ false → filter (is_other x) ys ≡ ys
 none_other x [] e = refl
 none_other x (y ∷ ys) e = at (y == x) e (none_other x ys)

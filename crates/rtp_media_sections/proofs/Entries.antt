@@ -31,7 +31,7 @@ use Rattle.sdp_formats_laws.specs.Printable.{IsWord}
 use Rattle.sdp_formats_rounds.specs.Members.{IsEach}
 use Rattle.rtp_media_sections.specs.PrintedSections.{IsPrintableEntry}
 
--- texts that can stand in a line
+-- texts that can be in a line
 byte_no_feed : (b : ℕ) → is_word_byte b ≡ true → b ≢ 10
 byte_no_feed b e = λ same. grind (arith, nat_tests)
 

@@ -1,4 +1,4 @@
--- The rows that sections list are printable where all rows are.
+-- The rows that sections list are printable if all rows are.
 use Rattle.std.proofs.Common.{◌≡◌, ◌==◌, ◌&&◌, ℕ, Bool, true, false, cond, List, [], ◌∷◌, ◌++◌, Option, Some, None}
 use Rattle.std.proofs.Common.{append_assoc, refl, sym, subst, find, inl, inr, if◌then◌else◌}
 use Rattle.std.specs.Prelude.{fold, filter}

@@ -36,7 +36,7 @@ is_media : (kind : MediaKind) → IsMedia (type_of kind)
 is_media kinds.Audio = tt
 is_media kinds.Video = tt
 
--- the lines before and behind the rows
+-- the lines before and after the rows
 direction_printable : (d : Direction) → printable.IsPrintable (direction_attribute d)
 direction_printable way.SendOnly = tt
 direction_printable way.RecvOnly = tt

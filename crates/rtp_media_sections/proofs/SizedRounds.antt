@@ -16,7 +16,7 @@ use Rattle.sdp_formats_rows.specs.Rows.{Row}
 use Rattle.sdp_formats_rows.specs.declared.spec.CodecSpec.{CodecSpec}
 use Rattle.rtp_media_sections.proofs.ListedRows.{one_of}
 
--- Channels of eight bits, where they are given.
+-- Channels of eight bits, if they are given.
 abbrev pub IsNarrow : Option ℕ → Type 0
 IsNarrow channels = IfSome channels (λ n. n < 2 ^ 8)
 

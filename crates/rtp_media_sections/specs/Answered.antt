@@ -21,7 +21,7 @@ flow true false = SendOnly
 flow false true = RecvOnly
 flow false false = Inactive
 
--- The direction of an answer: it sends where its end wants to and the offer receives, and receives where its end wants
+-- The direction of an answer: it sends if its end wants to and the offer receives, and receives if its end wants
 -- to and the offer sends.
 abbrev pub answered_direction : Direction → Direction → Direction
 answered_direction offered wanted = flow (sends wanted && receives offered) (receives wanted && sends offered)

@@ -26,7 +26,7 @@ is_word_byte b = not (b == 32) && (not (b == 13) && not (b == 10))
 abbrev pub is_word : List ℕ → Bool
 is_word bytes = not (length bytes == 0) && list_all is_word_byte bytes
 
--- Whether each extension of a map can stand in a line.
+-- Whether each extension of a map can be in a line.
 abbrev pub is_writable_map : Numbering → Bool
 is_writable_map exts = list_all (λ entry. is_word (uri_of entry.1)) (entries_of exts)
 

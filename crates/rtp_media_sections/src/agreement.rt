@@ -94,7 +94,7 @@ impl AgreedSection {
     ///
     /// # Errors
     ///
-    /// `AllocError` where memory runs out.
+    /// `AllocError` if memory runs out.
     pub fn fixed(alloc: Global) -> Result<Self, AllocError>
         ensures { IfOk result (λ a. a ≡ fixed_section) }
     {
@@ -264,7 +264,7 @@ fn agreed(
 ///
 /// # Errors
 ///
-/// `AllocError` where memory runs out.
+/// `AllocError` if memory runs out.
 #[tactic(auto, unfolding(crate::specs::Agreement::agreed_by_answer))]
 pub fn agreed_by_answer(
     alloc: Global,
@@ -289,7 +289,7 @@ pub fn agreed_by_answer(
 ///
 /// # Errors
 ///
-/// `AllocError` where memory runs out.
+/// `AllocError` if memory runs out.
 #[tactic(auto, unfolding(crate::specs::Agreement::agreed_by_accept))]
 pub fn agreed_by_accept(
     alloc: Global,

@@ -71,7 +71,7 @@ fn push_once(rows: &mut Vec<PayloadParams>, row: &PayloadParams) -> Result<(), A
     Ok(())
 }
 
-/// Puts the row under whose type an offered one is used behind the others, unless it is there.
+/// Puts the row under whose type an offered one is used after the others, unless it is there.
 #[tactic(auto, unfolding(crate::specs::Answered::row_answering))]
 fn push_answering(
     rows: &mut Vec<PayloadParams>,
@@ -119,7 +119,7 @@ fn answered_rows(
 ///
 /// # Errors
 ///
-/// `AllocError` where memory runs out.
+/// `AllocError` if memory runs out.
 #[tactic(auto, unfolding(crate::specs::Answered::answered_section))]
 pub fn answered_section(
     alloc: Global,

@@ -82,12 +82,12 @@ fn are_distinct(alloc: Global, wanted: &[SectionSpec]) -> Result<bool, AllocErro
     Ok(true)
 }
 
-/// Whether sections may be exchanged behind the agreed ones: there is one, no name stands twice, and they begin with
+/// Whether sections may be exchanged after the agreed ones: there is one, no name is twice, and they begin with
 /// the agreed ones.
 ///
 /// # Errors
 ///
-/// `AllocError` where memory runs out.
+/// `AllocError` if memory runs out.
 pub fn may_follow(
     alloc: Global,
     agreed: &[AgreedSection],

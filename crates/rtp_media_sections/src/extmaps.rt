@@ -27,7 +27,7 @@ fn is_word(text: &str) -> bool
     !text.is_empty() && are_word_bytes(text.as_bytes())
 }
 
-/// Whether each extension of a map can stand in a line: its text isn't empty, and has neither a blank nor a line end.
+/// Whether each extension of a map can be in a line: its text isn't empty, and has neither a blank nor a line end.
 pub fn is_writable(exts: &ExtensionMap) -> bool
     ensures writable { result ≡ is_writable_map exts.now }
     ensures numbers { length exts.now ≡ 16 }
@@ -99,7 +99,7 @@ fn set_entry(
 ///
 /// # Errors
 ///
-/// `AllocError` where memory runs out.
+/// `AllocError` if memory runs out.
 pub fn map_of_extmaps(
     alloc: Global,
     extmaps: &[(u8, Extension)],

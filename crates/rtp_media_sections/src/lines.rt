@@ -47,7 +47,7 @@ fn push_types(types: &mut Vec<Pt>, row: &PayloadParams) -> Result<(), AllocError
 ///
 /// # Errors
 ///
-/// `AllocError` where memory runs out.
+/// `AllocError` if memory runs out.
 pub fn types_listed(alloc: Global, rows: &[PayloadParams]) -> Result<Vec<Pt>, AllocError>
     ensures { IfOk result (λ types. types.items ≡ types_listed rows.now) }
 {
@@ -153,7 +153,7 @@ impl Section {
     ///
     /// # Errors
     ///
-    /// `AllocError` where memory runs out.
+    /// `AllocError` if memory runs out.
     #[tactic(auto, unfolding(crate::specs::Lines::line_of))]
     pub fn to_line(&self, alloc: Global) -> Result<MediaLine, AllocError>
         ensures { IfOk result (λ m. m ≡ line_of self.now) }

@@ -49,7 +49,7 @@ pub(crate) fn sources_wanted(alloc: Global, wanted: &SectionSpec) -> Result<Vec<
 ///
 /// # Errors
 ///
-/// `AllocError` where memory runs out.
+/// `AllocError` if memory runs out.
 #[tactic(auto, unfolding(crate::specs::Offered::offered_section))]
 pub fn offered_section(
     alloc: Global,

@@ -8,7 +8,7 @@ use rtp_wire::Mid;
 use sdp_formats_data::MediaLine;
 use sdp_formats_values::{MediaType, Proto};
 
-/// The name of a section, which each that was read has; the empty name where there is none.
+/// The name of a section, which each that was read has; the empty name if there is none.
 pub fn mid_of(line: &MediaLine) -> Mid
     ensures { result ≡ mid_of line.now }
 {

@@ -101,7 +101,7 @@ impl Section {
     ///
     /// # Errors
     ///
-    /// `AllocError` where memory runs out.
+    /// `AllocError` if memory runs out.
     #[tactic(auto, unfolding(crate::specs::Lines::section_of))]
     pub fn read(alloc: Global, line: &MediaLine) -> Result<Section, AllocError>
         ensures { IfOk result (λ section. section ≡ section_of line.now) }

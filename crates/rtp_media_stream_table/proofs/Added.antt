@@ -1,4 +1,4 @@
--- A stream behind the others.
+-- A stream after the others.
 use Rattle.std.proofs.Common.{◌≡◌, ◌+◌, ap, refl, arith, Bool, true, ◌&&◌, List, [], ◌∷◌, ◌++◌, length, length-append}
 use Rattle.std.proofs.lemmas.Bool.Decides.{nat_tests}
 use Rattle.std.proofs.lemmas.List.{get_or_push}

@@ -1,4 +1,4 @@
--- Streams that stand in an index, found by it, and kept in it.
+-- Streams that are in an index, found by it, and kept in it.
 use Rattle.std.proofs.Common.{◌≡◌, ◌≢◌, ℕ, ◌+◌, ◌<◌, refl, sym, ◌∙◌, ap, ap₂, arith, Bool, true, false, ◌&&◌}
 use Rattle.std.proofs.Common.{◌||◌, List, [], ◌∷◌, ◌++◌, length, length-append, true≢false}
 use Rattle.std.proofs.lemmas.Bool.Decides.{nat_tests}
@@ -100,7 +100,7 @@ sends-either ssrc pt None (Some key) (Sender s) = refl
 sends-either ssrc pt (Some red) None (Sender s) = refl
 sends-either ssrc pt (Some red) (Some key) (Sender s) = refl
 
--- A stream could take the datagrams of one of these keys where it takes those of one of them.
+-- A stream could take the datagrams of one of these keys if it takes those of one of them.
 pub could-take : (ssrc : ℕ) (types : PayloadTypes) (ss : List OpenStream) (a b c : Bool)
     → a ≡ list_any (takes ssrc types.pt) ss → b ≡ list_any (has_red takes ssrc types.red) ss
     → c ≡ list_any (has_repair takes types.repair) ss
@@ -128,7 +128,7 @@ could-be-sent ssrc types ss a b c h k m =
 some-is : (a b : ℕ) → Some a ≡ Some b → a ≡ b
 some-is a b e = ap (λ (o : Option ℕ). unwrap_or o 0) e
 
--- a stream put where one stands that has what it has
+-- a stream put if one is that has what it has
 module _ (has : ℕ → ℕ → OpenStream → Bool) (index : StreamIndex) (ss : List OpenStream) (m : ℕ) (y : OpenStream)
     (same : (ssrc pt : ℕ) → has ssrc pt y ≡ true → has ssrc pt (nth_stream ss m) ≡ true) where
   by-place : (n ssrc pt : ℕ) (here : Bool) → (n == m) ≡ here → n < length ss

@@ -1,4 +1,4 @@
--- What stands under each key where a number was set, or memory ran out.
+-- What is under each key if a number was set, or memory ran out.
 use Rattle.std.proofs.Common.{◌≡◌, ◌⊎◌, inl, inr, ℕ, Bool, true, false, ◌==◌, None, Some, refl, sym, ◌∙◌, ap}
 use Rattle.std.proofs.lemmas.Bool.{and_parts, eqb-true}
 use Rattle.std.specs.BTreeMap.{IsUnchanged, is_at}

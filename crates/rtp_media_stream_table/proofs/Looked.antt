@@ -1,4 +1,4 @@
--- Elements that stand in an index.
+-- Elements that are in an index.
 use Rattle.std.proofs.Common.{◌≡◌, ℕ, ◌+◌, ◌<◌, refl, sym, ◌∙◌, ap, ap₂, arith, Bool, true, false, ◌&&◌, ◌||◌}
 use Rattle.std.proofs.Common.{List, [], ◌∷◌, length, true≢false}
 use Rattle.std.proofs.lemmas.Bool.Decides.{nat_tests}
@@ -8,7 +8,7 @@ use Rattle.std.specs.Prelude.{nat_lt, not, Option, Some, None, if◌then◌else�
 use Rattle.std.specs.List.{list_any, position_or_len}
 
 module _ {X : Type 0} (p : X → Bool) where
-  -- some element passes where there is a first one that does
+  -- some element passes if there is a first one that does
   any-by-place : (xs : List X) → list_any p xs ≡ nat_lt (position_or_len p xs) (length xs)
   any-by-place [] = grind (arith, nat_tests)
   any-by-place (x ∷ xs) = by (p x) (any-by-place xs) where

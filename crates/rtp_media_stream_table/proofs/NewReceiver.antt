@@ -86,7 +86,7 @@ not-taken (Sender t) ssrc types s p among none = refl
 not-taken Closed ssrc types s p among none = refl
 not-taken (Receiver r) ssrc types s p among none = not-own r ssrc types s p among none
 
--- behind streams that don't, it is the first that does
+-- after streams that don't, it is the first that does
 first-own : (ss : List OpenStream) (x : OpenStream) (ssrc : ℕ) (types : PayloadTypes) (s p : ℕ)
     → is_key_of ssrc types s p ≡ true → list_any (receives_as ssrc types) ss ≡ false → takes s p x ≡ true
     → position_or_len (takes s p) (ss ++ x ∷ []) ≡ length ss
@@ -113,7 +113,7 @@ lt-push : (rs : List OpenStream) (x : OpenStream) → nat_lt (length rs) (length
 lt-push rs x = let more : length (rs ++ x ∷ []) ≡ length rs + 1 = length-append rs (x ∷ []) in grind
     (arith, nat_tests, more)
 
--- it is found where none of the others could take its datagrams
+-- it is found if none of the others could take its datagrams
 pub found-new : (ss : List OpenStream) (x : Receiving)
     → list_any (receives_as x.ssrc x.types) ss ≡ false → (s p : ℕ) → is_key_of x.ssrc x.types s p ≡ true
     → stream_for (ss ++ Receiver x ∷ []) s p ≡ Some (length ss)

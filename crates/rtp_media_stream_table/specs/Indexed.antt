@@ -20,7 +20,7 @@ abbrev pub has_red : (ℕ → ℕ → OpenStream → Bool) → ℕ → Option �
 has_red has ssrc None stream = false
 has_red has ssrc (Some red) stream = has ssrc red stream
 
--- What it has under a key of repairs, where there is one.
+-- What it has under a key of repairs, if there is one.
 abbrev pub has_repair : (ℕ → ℕ → OpenStream → Bool) → Option RepairKey → OpenStream → Bool
 has_repair has None stream = false
 has_repair has (Some key) stream = has key.ssrc key.pt stream

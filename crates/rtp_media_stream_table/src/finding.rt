@@ -69,7 +69,7 @@ fn is_sent(streams: &[OpenStream], senders: &StreamIndex, ssrc: Ssrc, pt: Pt) ->
     }
 }
 
-/// Whether one of the streams takes datagrams of this SSRC and RED type, where there is one.
+/// Whether one of the streams takes datagrams of this SSRC and RED type, if there is one.
 fn is_taken_as_red(
     streams: &[OpenStream],
     receivers: &StreamIndex,
@@ -85,7 +85,7 @@ fn is_taken_as_red(
     }
 }
 
-/// Whether one of the streams takes repairs of this SSRC and type, where there are any.
+/// Whether one of the streams takes repairs of this SSRC and type, if there are any.
 fn is_taken_as_repair(
     streams: &[OpenStream],
     receivers: &StreamIndex,
@@ -120,7 +120,7 @@ pub fn could_receive(
     any_of(by_type, by_red, by_repair)
 }
 
-/// Whether one of the streams could send datagrams of this SSRC and RED type, where there is one.
+/// Whether one of the streams could send datagrams of this SSRC and RED type, if there is one.
 fn is_sent_as_red(
     streams: &[OpenStream],
     senders: &StreamIndex,
@@ -136,7 +136,7 @@ fn is_sent_as_red(
     }
 }
 
-/// Whether one of the streams could send repairs of this SSRC and type, where there are any.
+/// Whether one of the streams could send repairs of this SSRC and type, if there are any.
 fn is_sent_as_repair(
     streams: &[OpenStream],
     senders: &StreamIndex,

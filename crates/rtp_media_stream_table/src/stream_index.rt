@@ -78,12 +78,12 @@ impl StreamIndex {
         }
     }
 
-    /// Sets the number of a stream under each SSRC and type of its datagrams. Where memory runs out it may be set under
+    /// Sets the number of a stream under each SSRC and type of its datagrams. If memory runs out it may be set under
     /// some of them.
     ///
     /// # Errors
     ///
-    /// `AllocError` where memory runs out.
+    /// `AllocError` if memory runs out.
     pub fn set_types(
         &mut self,
         ssrc: Ssrc,

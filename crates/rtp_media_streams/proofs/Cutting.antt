@@ -55,7 +55,7 @@ was-sent takes packing before after (Ok s) time values old new sent =
     record { taken = sent.1; sender = sent.0; accepted = refl }
 was-sent takes packing before after (Err e) time values old new sent = absurd sent
 
--- the same where the packetizer cuts as the stream's row says
+-- the same if the packetizer cuts as the stream's row says
 pub sent-as : {S : Type 0} (takes : S → Outgoing → S → Type 0) (packing row : Packing) (before after : Sender)
     (mtu : ℕ) (bytes : List ℕ) (time : ℕ) (values : ExtensionValues) (old new : S) →
     packing ≡ row → HasSent takes packing (packing.pack before mtu bytes) time values old new after
@@ -110,7 +110,7 @@ module _ (s : Sending) where
       let number : old.first + length old.datagrams.items ≡ s.next = omega (arith, first, ap length none) in
       sink_made os old new is takes ∙ ap₂ (λ (ds : List (List ℕ)) (n : ℕ). ds ++ datagrams_from s n os) none number
 
-  -- what a sink made of payloads behind older ones
+  -- what a sink made of payloads after older ones
   pub red_made : (pt mtu : ℕ) (os : List Outgoing) (old new : RedSink DatagramSink) → old.pt ≡ pt → old.budget ≡ mtu
       → IsStampOf s old.sink.stamp.now → TakesAll (TakesWrapped TakesOne) old os new →
       (new.sink.datagrams.items ≡ old.sink.datagrams.items

@@ -34,13 +34,13 @@ module _ (format : Format) where
   something None metas bytes extra h = cc
   something (Some e) metas bytes extra h = cc
 
-  -- memory runs out only where a frame is ready
+  -- memory runs out only if a frame is ready
   wants-something : (s t : Stream) → IsInterrupted format s t → poll_answer format s ≢ Ok None
   unfolding poll_answer
   wants-something s t wants none =
       something _ _ _ _ (sym (ap (answer_among format s.fragment s.held) wants.is_due) ∙ none)
 
--- where enough polls hand out these units, they are the answers, as far as memory was found
+-- if enough polls hand out these units, they are the answers, as far as memory was found
 abbrev pub heard_polls : Receiving → ℕ → List Answer
 heard_polls r n = heard (format_of r.row) r.stream (polls (format_of r.row) n)
 

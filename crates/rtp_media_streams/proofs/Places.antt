@@ -1,4 +1,4 @@
--- Where a payload stands in its datagram.
+-- Where a payload is in its datagram.
 use Rattle.std.proofs.Common.{◌≡◌, ℕ, zero, suc, ◌+◌, ◌*◌, ◌-◌, ◌<◌, ◌≤◌, refl, sym, ◌∙◌, ap, ap₂, subst, arith, Bool}
 use Rattle.std.proofs.Common.{true}
 use Rattle.std.proofs.Common.{false, List, [], ◌∷◌, ◌++◌, length, take, drop, true≢false}
@@ -82,7 +82,7 @@ wrapped-ends (a ∷ []) w h = cc
 wrapped-ends (a ∷ b ∷ []) w h = cc
 wrapped-ends (a ∷ b ∷ c ∷ rest) w h = (2, cc)
 
--- what stands behind a header, without its padding
+-- what follows a header, without its padding
 unpadded-front : (padded : Bool) (payload bytes : List ℕ) → unpadded padded payload ≡ Some bytes
     → (rest : List ℕ) × (payload ≡ bytes ++ rest)
 unpadded-front false payload bytes h = ([], (let e : payload ≡ bytes = cc in e) ∙ sym (append-nil bytes))

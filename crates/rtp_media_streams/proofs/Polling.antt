@@ -60,7 +60,7 @@ module _ (x r : Receiving) (same : x ≡ r) (format : Format) (holding : Holding
   drain-seen is = subst (λ (y : Receiving). AnswersBy (drain_step y) behind a) same
       (drains x format holding k a row count is)
 
--- fewer are held behind an answer
+-- fewer are held after an answer
 pub fewer-held : (r m : Receiving) (a : Answer) → AnswersBy (poll_step r) m (Some a) → a ≢ Ok None
     → length m.stream.held < length r.stream.held
 fewer-held r m a is some =

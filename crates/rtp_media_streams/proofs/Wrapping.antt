@@ -1,4 +1,4 @@
--- Payloads behind older ones.
+-- Payloads after older ones.
 use Rattle.std.proofs.Common.{◌≡◌, ◌≢◌, ℕ, zero, suc, ◌+◌, ◌-◌, ◌%◌, ◌<◌, ◌≤◌, refl, sym, ◌∙◌, ap, subst, arith, Bool}
 use Rattle.std.proofs.Common.{true, false, List, [], ◌∷◌, ◌++◌, length, map, reverse, take}
 use Rattle.std.proofs.lemmas.Bool.Decides.{nat_tests}
@@ -84,7 +84,7 @@ fit-longest budget size bs le =
 abbrev pub older : ℕ → Redundancy → Outgoing → List Block
 older budget r p = fitting (budget - (length p.payload + 1)) (levels r.history r.distances p.time)
 
--- what is wrapped stands behind older payloads
+-- what is wrapped follows older payloads
 behind-is : (pt budget : ℕ) (r : Redundancy) (p : Outgoing) (sent : List ℕ) → length p.payload + 1 ≤ budget
     → IsWrap r pt p.payload p.time budget sent → sent ≡ behind_older pt budget r p
 behind-is pt budget r p sent le is =
@@ -105,7 +105,7 @@ wrap-is pt budget r p sent is = go (nat_le (length p.payload + 1) budget) refl w
   go true e = behind-is pt budget r p sent (le-yes (length p.payload + 1) budget e) is
   go false e = is.unwrapped (le-no (length p.payload + 1) budget e)
 
--- where there is room for one byte more it is behind older ones
+-- if there is room for one byte more it is after older ones
 wrapped-behind : (pt budget : ℕ) (r : Redundancy) (p : Outgoing) → length p.payload + 1 ≤ budget
     → wrapped pt budget r p ≡ behind_older pt budget r p
 wrapped-behind pt budget r p le = go (nat_le (length p.payload + 1) budget) refl where
@@ -152,7 +152,7 @@ behind-wrap pt budget r p are le =
       unwrapped = λ lt. absurd (omega (arith, lt, le));
     }
 
--- the primary payload is found behind the others
+-- the primary payload is found after the others
 find-primary : (pt : ℕ) (bs : List Block) (own : ℕ) (primary : List ℕ) → own ≡ pt
     → primary_of pt (map redundant_item bs ++ primary_item own primary ∷ []) ≡ Some primary
 find-primary pt [] own primary same = found (own == pt) (eqb own pt same) where

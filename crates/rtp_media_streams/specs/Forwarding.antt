@@ -1,4 +1,4 @@
--- What a sending stream answers where it shall send a packet of another stream on.
+-- What a sending stream answers if it shall send a packet of another stream on.
 use Rattle.std.specs.Prelude.{ℕ, ◌+◌, ◌==◌, ◌^◌, max, nat_le, nat_lt, if◌then◌else◌, length, is_some, Option, Some, None}
 use Rattle.payload_core_base.specs.Outgoing.{Outgoing}
 use Rattle.rtp_media_streams.specs.Sending.{Sending, datagram_of}
@@ -6,7 +6,7 @@ use Rattle.rtp_media_streams.specs.declared.errors.ForwardError.{ForwardError}
 use Rattle.rtp_media_streams.specs.declared.errors.ForwardError.TheVariants.{AddsRedundancy, LimitTooSmall, NoPayload}
 use Rattle.rtp_media_streams.specs.declared.errors.ForwardError.TheVariants.{NumberTooLarge}
 
--- Why a payload of so many bytes is not sent under a number in a datagram of so many: the first that holds.
+-- Why a payload of this many bytes is not sent under a number in a datagram of this many: the first that holds.
 abbrev pub refusal_of_length : Sending → (number payload datagram : ℕ) → Option ForwardError
 refusal_of_length s number payload datagram =
     if is_some s.redundancy then Some AddsRedundancy

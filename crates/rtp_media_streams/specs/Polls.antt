@@ -38,7 +38,7 @@ drain_step r = record {
       × (t ≡ with_stream r (holding_back r.stream.holding.hold_back t.stream));
 }
 
--- What they answer where memory is found.
+-- What they answer if memory is found.
 abbrev pub poll_result : Receiving → PollResult
 poll_result r = given (poll_step r).answer
 

@@ -76,7 +76,7 @@ carried ssrc types header payload =
     if is_plain_key ssrc types header.ssrc header.payload_type
     then plain_brought header (unwrapped types header.payload_type payload) else wrapped_in payload
 
--- What stands at a place of a datagram under a number.
+-- What is at a place of a datagram under a number.
 abbrev pub wrapped_at : List ℕ → Brought → Wrapped
 wrapped_at datagram b = record { number = b.number; payload = slice_range datagram b.start b.end }
 
@@ -88,7 +88,7 @@ brought ssrc types header datagram =
     then plain_brought header (media_payload types header datagram)
     else option_and_then wrapped_in (unpadded header.has_padding (payload_in header datagram))
 
--- The number of a datagram with these low bits, where it is taken.
+-- The number of a datagram with these low bits, if it is taken.
 abbrev pub taken_number : Stream → ℕ → Option ℕ
 taken_number s low = if is_accepted s.window (number_at s low) then Some (number_at s low) else None
 
@@ -96,7 +96,7 @@ taken_number s low = if is_accepted s.window (number_at s low) then Some (number
 abbrev pub arrived : Stream → ℕ → ℕ → Bool → ExtensionValues → List ℕ → Stream
 arrived s low time marker values payload = taken_by s (number_at s low) (content_of time marker values payload)
 
--- The stream after it, where its number alone is recorded and nothing of it is held.
+-- The stream after it, if its number alone is recorded and nothing of it is held.
 abbrev pub number_taken : Stream → ℕ → Stream
 number_taken s low =
     if is_accepted s.window (number_at s low)

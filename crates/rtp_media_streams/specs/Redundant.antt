@@ -36,7 +36,7 @@ abbrev pub kept_after : ℕ → Redundancy → List Outgoing → Redundancy
 kept_after pt r [] = r
 kept_after pt r (o ∷ os) = kept_after pt (keeping r pt o.payload o.time) os
 
--- The bytes of the primary payload, where it has this type.
+-- The bytes of the primary payload, if it has this type.
 abbrev pub primary_of : ℕ → List Item → Option (List ℕ)
 primary_of pt [] = None
 primary_of pt (item ∷ items) = if item.primary then (if item.pt == pt then Some item.payload else None)

@@ -6,7 +6,7 @@ use Rattle.rtp_media_streams.specs.Sending.{stamped}
 use Rattle.rtp_media_streams.specs.declared.sink.DatagramSink.{DatagramSink}
 use Rattle.rtp_media_streams.specs.declared.sink.Stamp.{Stamp}
 
--- The datagram of a number: the header, and behind it the payload.
+-- The datagram of a number: the header, and after it the payload.
 abbrev pub datagram_with : Stamp → ℕ → Outgoing → List ℕ
 datagram_with stamp number o = spelled stamp.exts
     (stamped stamp.ssrc stamp.pt stamp.exts number o.marker o.time o.values) ++ o.payload

@@ -50,7 +50,7 @@ impl Datagram {
         bytes
     }
 
-    /// A header and a payload behind it.
+    /// A header and a payload after it.
     ///
     /// # Conditions
     /// The header's payload type is below 128, and it has at most 15 contributing sources.

@@ -16,11 +16,11 @@ pub struct Brought {
     pub number: u16,
     /// Where the payload under that number begins in the datagram.
     pub start: usize,
-    /// The place behind its last byte.
+    /// The place after its last byte.
     pub end: usize,
 }
 
-/// The primary payload, where it has this type.
+/// The primary payload, if it has this type.
 fn primary_of(blocks: RedBlocks<'_>, pt: Pt) -> Option<&[u8]>
     ensures { MatchOption result (primary_of pt (items_left blocks.entry) ≡ None)
         (λ payload. primary_of pt (items_left blocks.entry) ≡ Some payload.now) }
@@ -37,7 +37,7 @@ fn primary_of(blocks: RedBlocks<'_>, pt: Pt) -> Option<&[u8]>
     None
 }
 
-/// The payload itself, or under the RED type its primary payload, where it has the other type (RFC 2198).
+/// The payload itself, or under the RED type its primary payload, if it has the other type (RFC 2198).
 fn unwrapped<'a>(types: &PayloadTypes, pt: Pt, payload: &'a [u8]) -> Option<&'a [u8]>
     ensures { MatchOption result (unwrapped types.now pt payload.now ≡ None)
         (λ media. unwrapped types.now pt payload.now ≡ Some media.now) }
@@ -77,7 +77,7 @@ fn carried(
 }
 
 /// What a datagram of its own brings a stream of this SSRC and these types: the low 16 bits of a number, and the place
-/// of a payload with a byte at least. A repair brings what it wraps (RFC 4588 4). None where padding or redundancy
+/// of a payload with a byte at least. A repair brings what it wraps (RFC 4588 4). None if padding or redundancy
 /// don't fit, or there is no payload.
 ///
 /// # Conditions

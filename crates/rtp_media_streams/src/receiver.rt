@@ -32,7 +32,7 @@ use rtp_wire::{
 use std::alloc::{AllocError, AllocFailed, Global};
 use std::marker::Model;
 
-/// A datagram of a stream's own as it arrives: what its header tells, and where in it the payload stands.
+/// A datagram of a stream's own as it arrives: what its header tells, and where in it the payload is.
 #[derive(Clone, Copy, Debug, Drop)]
 pub struct Arrival {
     /// The low 16 bits of its number.
@@ -45,7 +45,7 @@ pub struct Arrival {
     pub ext_vals: ExtensionValues,
     /// Where its payload begins.
     pub start: usize,
-    /// The place behind the payload's last byte.
+    /// The place after the payload's last byte.
     pub end: usize,
 }
 
@@ -229,7 +229,7 @@ impl ReceivingStream {
 
     /// A datagram of its own as it arrives: the 16 bits of a number, the place of the payload without padding (RFC 3550
     /// 5.1) and, under the RED type, without redundancy (RFC 2198), and what is told of it; a repair brings the number
-    /// and the payload that it wraps (RFC 4588 4). None where the padding doesn't fit, redundancy can't be read, its
+    /// and the payload that it wraps (RFC 4588 4). None if the padding doesn't fit, redundancy can't be read, its
     /// primary payload has another type, or there is no byte.
     ///
     /// # Conditions
@@ -254,9 +254,9 @@ impl ReceivingStream {
         })
     }
 
-    /// Takes one datagram of its own in, and returns its widened number; None where that is refused. The payload may be
+    /// Takes one datagram of its own in, and returns its widened number; None if that is refused. The payload may be
     /// empty: it is then held as any other, and its format says at a poll what it makes of it. The datagram is copied
-    /// once, where its number is new.
+    /// once, if its number is new.
     ///
     /// # Conditions
     /// The payload's place is within the datagram.
@@ -316,7 +316,7 @@ impl ReceivingStream {
         Ok(Some(number))
     }
 
-    /// Takes the number alone of one datagram of its own, and returns it widened; None where that is refused. For a
+    /// Takes the number alone of one datagram of its own, and returns it widened; None if that is refused. For a
     /// datagram that is sent on: nothing is held, and no unit will have it.
     pub fn take_number(&mut self, low: u16) -> Option<SeqNo>
         ensures answer { result ≡ taken_number self.old.stream low }
@@ -330,11 +330,11 @@ impl ReceivingStream {
         Some(number)
     }
 
-    /// Hands out the next unit, where one is ready.
+    /// Hands out the next unit, if one is ready.
     ///
     /// # Errors
-    /// `PollFault::Payload` where a packet of the next frame is refused, which is then done with, or
-    /// `PollFault::Memory`, only where a frame is ready, which stays; some of its packets may have been read.
+    /// `PollFault::Payload` if a packet of the next frame is refused, which is then done with, or
+    /// `PollFault::Memory`, only if a frame is ready, which stays; some of its packets may have been read.
     pub fn poll(&mut self) -> Result<Option<Unit>, PollFault>
         ensures answers { AnswersBy (poll_step self.old) self.new (found result) }
     {
@@ -342,7 +342,7 @@ impl ReceivingStream {
     }
 
     /// Hands out the lowest complete unit, whether or not a datagram before it is missing: a poll that holds no
-    /// complete frame back. For the end of a stream, when nothing more will come; None where no frame is complete.
+    /// complete frame back. For the end of a stream, when nothing more will come; None if no frame is complete.
     ///
     /// # Errors
     /// Those of [`ReceivingStream::poll`].

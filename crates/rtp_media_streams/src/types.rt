@@ -15,8 +15,8 @@ pub struct RepairKey {
     pub pt: Pt,
 }
 
-/// The payload types of a stream's row (RFC 3550 5.1): its own and, where it has one, that of its
-/// redundancy (RFC 2198); and the SSRC and type of its repairs, where it has them.
+/// The payload types of a stream's row (RFC 3550 5.1): its own and, if it has one, that of its
+/// redundancy (RFC 2198); and the SSRC and type of its repairs, if it has them.
 #[derive(Clone, Copy, Drop)]
 pub struct PayloadTypes {
     /// The row's own type.
@@ -27,7 +27,7 @@ pub struct PayloadTypes {
     pub repair: Option<RepairKey>,
 }
 
-/// Whether this is the type, where there is one.
+/// Whether this is the type, if there is one.
 fn is_type(type_of: Option<Pt>, pt: Pt) -> bool
     ensures { result ≡ is_type type_of pt }
 {

@@ -105,7 +105,7 @@ some-if false x = refl
 pub block_in-some : (bytes : List ℕ) → is_some_block (block_in bytes) ≡ has_extension_in bytes
 block_in-some bytes = some-if (has_extension_in bytes) _
 
--- the part behind the sources, by whether there is a block
+-- the part after the sources, by whether there is a block
 behind : (bytes : List ℕ) → IsBytes bytes → header_length_in bytes ≤ length bytes → (b : Bool)
     → has_extension_in bytes ≡ b →
     drop (block_at bytes) bytes ≡ block_bytes (block_in bytes) ++ drop (header_length_in bytes) bytes

@@ -86,7 +86,7 @@ le-true a b h = grind (arith, nat_tests)
 eq-true : (a b : ℕ) → a ≡ b → (a == b) ≡ true
 eq-true a b h = grind (arith, nat_tests)
 
--- bytes in which the sources, a block and the rest stand
+-- bytes in which the sources, a block and the rest are
 record Stands (bytes csrc : List ℕ) (ext : Option Block) (rest : List ℕ) : Type 0 where
   count : csrc_count_in bytes ≡ length csrc
   extension : has_extension_in bytes ≡ is_some_block ext
@@ -139,7 +139,7 @@ Stands-layout l rest fits = record {
       ∙ drop_at (words l.csrc) (block_bytes l.extension ++ rest) (4 * length l.csrc) (length-words l.csrc);
 }
 
--- A layout is read as what it means, whatever stands behind it.
+-- A layout is read as what it means, whatever follows it.
 pub header_in-layout : (map : Numbering) (l : Layout) (rest : List ℕ) → IsLayout l
     → header_in map (layout_bytes l ++ rest) ≡ Some (header_of map l)
 header_in-layout map l rest fits =
@@ -236,7 +236,7 @@ pub header_in-spelled : (map : Numbering) (h : RtpHeader) (rest : List ℕ) → 
 header_in-spelled map h rest w = header_in-layout map (layout_of map h) rest (IsLayout-of map h w)
     ∙ ap (λ (x : RtpHeader). Some x) (header_of-layout_of map h w)
 
--- The payload behind what was written.
+-- The payload after what was written.
 pub payload_in-spelled : (map : Numbering) (h : RtpHeader) (payload : List ℕ)
     → payload_in (image map h) (spelled map h ++ payload) ≡ payload
 payload_in-spelled map h payload = drop_at (spelled map h) payload (length (spelled map h)) refl

@@ -122,7 +122,7 @@ behind one p rest bytes is same (pieces, end, h) = (
   },
 )
 
--- an element with its bytes in front of what is behind it
+-- an element with its bytes in front of what is after it
 front : (k : ℕ) (rest : List ℕ) → k ≤ length rest → length (take k rest) ≡ k
 front k rest h = omega (arith, length-take k rest)
 

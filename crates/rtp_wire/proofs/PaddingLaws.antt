@@ -1,4 +1,4 @@
--- Padding that is taken off is what stood behind the payload.
+-- Padding that is taken off is what stood after the payload.
 use Rattle.std.proofs.Common.{◌≡◌, ℕ, ◌+◌, ◌-◌, ◌<◌, ◌≤◌, Bool, true, false, ◌==◌, ◌||◌, refl, sym, ap, ◌∙◌, arith}
 use Rattle.std.proofs.Common.{List, ◌++◌, length, take, drop, length-append, length-drop, Some, None}
 use Rattle.std.specs.Prelude.{if◌then◌else◌, nat_lt, slice_index}

@@ -4,7 +4,7 @@ use Rattle.std.proofs.Common.{length-append}
 use Rattle.std.proofs.lemmas.List.{drop_at}
 use Rattle.rtp_wire.specs.Written.{IsWritten}
 
--- what is in front is written over what stands there now
+-- what is in front is written over what is there now
 pub front-written : (front behind before bytes : List ℕ) → IsWritten (front ++ behind) before bytes
     → IsWritten front bytes bytes
 front-written front behind before bytes w =

@@ -22,7 +22,7 @@ retyped-is : (pt : ℕ) (marker : Bool) (was : ℕ) → was < 128 → retyped pt
 retyped-is pt true was h = omega arith
 retyped-is pt false was h = omega arith
 
--- The repair of a datagram that a layout spells: the same layout under other keys, and the number's bytes behind it.
+-- The repair of a datagram that a layout spells: the same layout under other keys, and the number's bytes after it.
 pub repaired-layout : (pt number ssrc : ℕ) (l : Layout) (rest : List ℕ) → l.payload_type < 128 →
     repair_of pt number ssrc (length (layout_bytes l)) (layout_bytes l ++ rest)
     ≡ layout_bytes (readdressed_layout pt number ssrc l) ++ (to_be_bytes w16 l.number ++ rest)
@@ -69,7 +69,7 @@ reads-layout map pt number ssrc l rest sound p n s =
     ∙ ap (λ (k : ℕ). Some (record (readdressed pt number ssrc (header_of map l)) { header_len = k }))
     (readdressed-length pt number ssrc l)
 
--- Behind it stand the number's bytes and the payload.
+-- After it are the number's bytes and the payload.
 pub payload-layout : (map : Numbering) (pt number ssrc : ℕ) (l : Layout) (rest : List ℕ) → l.payload_type < 128 →
     payload_in (header_of map l) (repair_of pt number ssrc (length (layout_bytes l)) (layout_bytes l ++ rest))
     ≡ to_be_bytes w16 l.number ++ rest
@@ -78,7 +78,7 @@ payload-layout map pt number ssrc l rest fits =
     ∙ drop_at (layout_bytes (readdressed_layout pt number ssrc l)) (to_be_bytes w16 l.number ++ rest)
     (length (layout_bytes l)) (sym (readdressed-length pt number ssrc l))
 
--- Padding counts as much behind two bytes more.
+-- Padding counts as much after two bytes more.
 if-none : {A : Type 0} (b : Bool) (x y : A) → (if b then None else Some x) ≡ Some y → (b ≡ false) × (x ≡ y)
 if-none true x y h = absurd cc
 if-none false x y h = (refl, cc)

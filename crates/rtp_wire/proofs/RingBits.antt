@@ -69,7 +69,7 @@ clear-slot words at slot long in_ring =
     (λ ne. rw (eqb-no slot at ne) refl)
     (λ ne. bit_at_clear_other w64 word (at % 64) within (slot % 64) below ne)
 
--- where all words are alike
+-- if all words are alike
 word-at : (word k n : ℕ) → k < n → get_or (replicate n word) k 0 ≡ word
 word-at word k zero h = absurd (omega arith)
 word-at word zero (suc n) h = refl

@@ -1,4 +1,4 @@
--- The widened number is the nearest, and the true one where that is near.
+-- The widened number is the nearest, and the true one if that is near.
 use Rattle.std.proofs.Common.{◌≡◌, ℕ, ◌+◌, ◌-◌, ◌%◌, ◌^◌, ◌<◌, ◌≤◌, true, false, arith, inl, inr}
 use Rattle.std.specs.Prelude.{Some, nat_lt, ◌⊎◌}
 use Rattle.std.proofs.lemmas.Bool.Decides.{nat_tests}

@@ -112,7 +112,7 @@ Records old n new = (slot : ℕ) → slot < 1024 → is_set new slot ≡ ((slot 
 abbrev pub Forgets : List ℕ → ℕ → List ℕ → Type 0
 Forgets old n new = (slot : ℕ) → slot < 1024 → is_set new slot ≡ (not (slot == n % 1024) && is_set old slot)
 
--- what is told of the numbers in reach, where those above `g` are passed over up to `h`
+-- what is told of the numbers in reach, if those above `g` are passed over up to `h`
 abbrev pub Passes : ℕ → List ℕ → ℕ → List ℕ → Type 0
 Passes g old h new = (q : ℕ) → q ≤ h → h < q + 1024 → is_recorded new q ≡ (nat_le q g && is_recorded old q)
 
@@ -157,7 +157,7 @@ pub ring-far : (g n h : ℕ) (words passed : List ℕ) → max g n ≡ h → Pas
     → ring h passed ≡ window_with (ring g words) n
 ring-far g n h words passed e p b = ring-with g n h words passed e (λ q. grind (arith, nat_tests, p q))
 
--- where one slot is set, or all are
+-- if one slot is set, or all are
 pub ring-new : (n seq : ℕ) (empty new : List ℕ) → n ≡ seq → ((slot : ℕ) → slot < 1024 → is_set empty slot ≡ false)
     → Records empty n new → ring n new ≡ window_at seq
 ring-new n seq empty new same none r = same_window n _ _ (λ q. contains-numbers_of n new q
@@ -173,7 +173,7 @@ ring-after n full all = same_window n _ _ (λ q. contains-numbers_of n full q
       and-true true = refl
       and-true false = refl
 
--- where all slots are cleared
+-- if all slots are cleared
 pub passes-all : (g h : ℕ) (old new : List ℕ) → 1024 ≤ h - g
     → ((slot : ℕ) → slot < 1024 → is_set new slot ≡ false) → Passes g old h new
 passes-all g h old new far none q a b = none (q % 1024) (omega arith) ∙ grind (arith, nat_tests)

@@ -1,4 +1,4 @@
--- Words, one behind the other.
+-- Words, one after the other.
 use Rattle.std.proofs.Common.{◌≡◌, ℕ, zero, suc, ◌+◌, ◌-◌, ◌*◌, ◌<◌, refl, sym, ◌∙◌, ap, arith, List, [], ◌∷◌, ◌++◌}
 use Rattle.std.proofs.Common.{length, drop, replicate, length-append, append_assoc, add-one}
 use Rattle.std.proofs.Common.{set as set_at}

@@ -116,7 +116,7 @@ pub record IsSpelled (map : Numbering) (bytes : List ℕ) (header : RtpHeader) :
   pub spelling : bytes ≡ layout_bytes layout ++ rest
   pub meaning : header ≡ header_of map layout
 
--- The payload behind the header.
+-- The payload after the header.
 abbrev pub payload_in : RtpHeader → List ℕ → List ℕ
 payload_in header bytes = drop header.header_len bytes
 

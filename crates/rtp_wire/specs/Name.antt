@@ -13,7 +13,7 @@ name_byte b = if is_name_byte b then b else 95
 abbrev pub name_of : ℕ → List ℕ → List ℕ
 name_of limit text = map name_byte (take limit text)
 
--- A text that is a name of at most so many bytes.
+-- A text that is a name of at most this many bytes.
 abbrev pub IsName : ℕ → List ℕ → Type 0
 IsName limit text = name_of limit text ≡ text
 

@@ -17,7 +17,7 @@ reception_of window None = Unreadable
 reception_of window (Some header) =
     if is_accepted window (number_at window header) then Taken (number_at window header) else Refused
 
--- The window behind it.
+-- The window after it.
 abbrev pub window_behind : Option Window → Option RtpHeader → Option Window
 window_behind window None = window
 window_behind window (Some header) =

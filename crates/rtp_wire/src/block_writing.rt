@@ -116,7 +116,7 @@ impl ExtensionMap {
         self.extent(values).fits
     }
 
-    /// The form of the block for these values: one-byte where each element fits it.
+    /// The form of the block for these values: one-byte if each element fits it.
     pub fn form(&self, values: &ExtensionValues) -> ExtensionsForm
         ensures { result ≡ form_for self.now values.now }
     {
@@ -135,7 +135,7 @@ impl ExtensionMap {
         profile_of(self.extent(values).fits)
     }
 
-    /// The length of the block's bytes for these values, behind profile and length.
+    /// The length of the block's bytes for these values, after profile and length.
     #[tactic(auto, unfolding(crate::specs::Values::block_of))]
     pub fn block_len(&self, values: &ExtensionValues) -> usize
         ensures value { result ≡ length (block_of self.now values.now).content }
@@ -148,7 +148,7 @@ impl ExtensionMap {
         extent.filled_len(extent.fits)
     }
 
-    /// The length of the block's bytes for these values, behind profile and length, with each element
+    /// The length of the block's bytes for these values, after profile and length, with each element
     /// in the two-byte form (RFC 8285 4.3); `block_len` never passes it.
     #[tactic(auto, unfolding(crate::specs::Values::two_byte_block))]
     pub fn two_byte_len(&self, values: &ExtensionValues) -> usize
@@ -158,7 +158,7 @@ impl ExtensionMap {
         self.extent(values).filled_len(false)
     }
 
-    /// Writes what a place carries, and returns the place behind it.
+    /// Writes what a place carries, and returns the place after it.
     fn write_place(
         &self,
         buf: &mut [u8],
@@ -192,7 +192,7 @@ impl ExtensionMap {
         }
     }
 
-    /// Writes the block's bytes for these values in their form at this place, and returns the place behind them.
+    /// Writes the block's bytes for these values in their form at this place, and returns the place after them.
     fn write_content(
         &self,
         values: &ExtensionValues,
@@ -215,7 +215,7 @@ impl ExtensionMap {
         put(buf, end, &[0; 3][..fill])
     }
 
-    /// Writes the block's bytes for these values at this place, and returns the place behind them.
+    /// Writes the block's bytes for these values at this place, and returns the place after them.
     ///
     /// # Conditions
     /// The buffer has room for the block's bytes from `at` on.
@@ -229,7 +229,7 @@ impl ExtensionMap {
     }
 
     /// Writes the block for these values at this place, profile and count of words first (RFC 3550 5.3.1), and
-    /// returns the place behind it.
+    /// returns the place after it.
     ///
     /// # Conditions
     /// The buffer has room for four bytes and the block's from `at` on.

@@ -40,8 +40,8 @@ pub fn block_laws()
         length (block_of map values).content ≤ length (two_byte_block map values).content }
 {}
 
-/// The number and the bytes of the first element, and what is behind it; a byte of padding is an
-/// element of number 0. None where the elements end.
+/// The number and the bytes of the first element, and what is after it; a byte of padding is an
+/// element of number 0. None if the elements end.
 fn next_element(one_byte: bool, bytes: &[u8]) -> Option<(u8, &[u8], &[u8])>
     ensures { MatchOption result (step one_byte bytes.now ≡ None)
         (λ x. step one_byte bytes.now ≡ Some (record { id = x.0; bytes = x.1.now; rest = x.2.now })) }

@@ -89,7 +89,7 @@ pub(crate) fn delay_bytes(least: Option<u16>, most: Option<u16>) -> Option<Eleme
     Some(ElementBytes::new(&bytes))
 }
 
-/// The capture time, with the clock's offset where it is there.
+/// The capture time, with the clock's offset if it is there.
 fn capture_bytes(time: Option<AbsCaptureTime>) -> Option<ElementBytes>
     ensures { result ≡ capture_bytes time }
 {

@@ -109,7 +109,7 @@ impl Extension {
     /// The extension that a URI names (RFC 8285 5).
     ///
     /// # Errors
-    /// Out of memory for a copy of the URI, where it names no extension that is known here.
+    /// Out of memory for a copy of the URI, if it names no extension that is known here.
     pub fn from_sdp_uri(alloc: Global, uri: &str) -> Result<Extension, AllocError>
         ensures value { IfOk result (λ ext. ext ≡ extension_of uri.now) }
         ensures back { IfOk result (λ ext. uri_of ext ≡ uri.now) }
@@ -162,7 +162,7 @@ impl Extension {
     /// The same extension again.
     ///
     /// # Errors
-    /// `AllocError` where memory for the URI of an unknown one runs out.
+    /// `AllocError` if memory for the URI of an unknown one runs out.
     pub fn clone(&self, alloc: Global) -> Result<Extension, AllocError>
         ensures { IfOk result (λ ext. ext ≡ self.now) }
     {

@@ -31,7 +31,7 @@ impl Model for Frequency {
 }
 
 impl Frequency {
-    /// A clock of so many ticks a second; None for 0.
+    /// A clock of this many ticks a second; None for 0.
     pub fn new(ticks: u32) -> Option<Self>
         ensures { result ≡ frequency_of ticks }
     {

@@ -10,7 +10,7 @@ use crate::values::ExtensionValues;
 pub struct RtpHeader {
     /// The version, 2 in a header that was read.
     pub version: u8,
-    /// Whether padding stands behind the payload.
+    /// Whether padding follows the payload.
     pub has_padding: bool,
     /// Whether there is an extension block.
     pub has_extension: bool,

@@ -104,7 +104,7 @@ impl ExtensionMap {
     /// The same map again.
     ///
     /// # Errors
-    /// `AllocError` where memory for the URI of an unknown extension runs out.
+    /// `AllocError` if memory for the URI of an unknown extension runs out.
     #[tactic(auto, using(crate::proofs::MapLaws::copied_more, crate::proofs::MapLaws::copied_none))]
     pub fn clone(&self, alloc: Global) -> Result<ExtensionMap, AllocError>
         ensures { IfOk result (λ map. map ≡ self.now) }

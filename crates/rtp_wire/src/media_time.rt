@@ -147,7 +147,7 @@ impl MediaTime {
         }
     }
 
-    /// The same; None where its ticks pass 64 bits.
+    /// The same; None if its ticks pass 64 bits.
     pub fn checked_rebase(self, denom: Frequency) -> Option<MediaTime>
         ensures { result ≡ checked_rebased self denom }
     {
@@ -158,7 +158,7 @@ impl MediaTime {
         }
     }
 
-    /// The difference at the greater clock rate; None where it is below zero, or where a time does
+    /// The difference at the greater clock rate; None if it is below zero, or if a time does
     /// not fit 64 bits there.
     pub fn checked_sub(self, rhs: MediaTime) -> Option<MediaTime>
         ensures { result ≡ checked_difference self rhs }
@@ -170,7 +170,7 @@ impl MediaTime {
         Some(MediaTime { ticks, rate })
     }
 
-    /// The difference at the greater clock rate, 0 where it is below zero.
+    /// The difference at the greater clock rate, 0 if it is below zero.
     ///
     /// # Conditions
     /// Both times fit 64 bits at the greater clock rate; `checked_sub` needs no condition.

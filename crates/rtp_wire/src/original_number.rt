@@ -1,4 +1,4 @@
-//! The two bytes of the original number behind the header of a repair.
+//! The two bytes of the original number after the header of a repair.
 
 ghost use Rattle.std.specs.Prelude.{◌≡◌, ◌≤◌, ◌%◌, ◌++◌, drop, length, nat_lt, if◌then◌else◌};
 ghost use Rattle.std.specs.Int.{w16, to_be_bytes, from_be_bytes};
@@ -8,7 +8,7 @@ use crate::sequence::SeqNo;
 
 impl RtpHeader {
     /// Writes the low 16 bits of a number in front of the buffer (RFC 4588 4), and returns their length. The bytes
-    /// behind them stay.
+    /// after them stay.
     ///
     /// # Conditions
     /// The buffer has room for two bytes.
@@ -22,7 +22,7 @@ impl RtpHeader {
     }
 
     /// Reads the low 16 bits of a number in front of the buffer (RFC 4588 4), and returns their length; 0, and nothing
-    /// has changed, where there are fewer than two bytes.
+    /// has changed, if there are fewer than two bytes.
     pub fn read_original_sequence_number(buf: &[u8], seq_no: &mut u16) -> usize
         ensures len { result ≡ (if nat_lt (length buf.now) 2 then 0 else 2) }
         ensures read { seq_no.new ≡ (if nat_lt (length buf.now) 2 then seq_no.old else from_be_bytes w16 buf.now) }

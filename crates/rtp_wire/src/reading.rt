@@ -39,7 +39,7 @@ fn has_bit(byte: u8, worth: u8) -> bool
     byte / worth % 2 == 1
 }
 
-/// The length of the header in front of the bytes, where there is one.
+/// The length of the header in front of the bytes, if there is one.
 fn header_length(bytes: &[u8]) -> Option<usize>
     ensures { result ≡ (if is_header bytes.now then Some (header_length_in bytes.now) else None) }
 {
@@ -110,7 +110,7 @@ fn fields_of(bytes: &[u8], ext_vals: ExtensionValues, header_len: usize) -> RtpH
 }
 
 impl RtpHeader {
-    /// The header in front of a datagram (RFC 3550 5.1). None where the version isn't 2, or where
+    /// The header in front of a datagram (RFC 3550 5.1). None if the version isn't 2, or if
     /// the header, its contributing sources or its extension block pass the end.
     pub fn parse(buf: &[u8], exts: &ExtensionMap) -> Option<RtpHeader>
         ensures { result ≡ header_in exts.now buf.now }
@@ -129,7 +129,7 @@ impl RtpHeader {
         Some(fields_of(buf, ExtensionValues::absent(), header_len))
     }
 
-    /// The values of the header extensions of the header in front of a datagram, and nothing else of it. None where
+    /// The values of the header extensions of the header in front of a datagram, and nothing else of it. None if
     /// `parse` reads no header.
     pub fn parse_values(buf: &[u8], exts: &ExtensionMap) -> Option<ExtensionValues>
         ensures { result ≡ option_map (λ h. h.ext_vals) (header_in exts.now buf.now) }

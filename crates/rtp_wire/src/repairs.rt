@@ -7,8 +7,8 @@ ghost use Rattle.rtp_wire.specs.Repairs.{repair_of, wrapped_in};
 use crate::numbers::{Pt, Ssrc};
 use std::alloc::{AllocError, Global};
 
-/// The repair of a datagram behind a header of so many bytes: its type, number and SSRC are replaced, the two bytes of
-/// its own number are set in behind the header, and each other byte stays (RFC 4588 4).
+/// The repair of a datagram after a header of this many bytes: its type, number and SSRC are replaced, the two bytes of
+/// its own number are set in after the header, and each other byte stays (RFC 4588 4).
 ///
 /// # Conditions
 /// The header has at least the twelve bytes that each has, and ends at the datagram's end or before it; the payload
@@ -55,7 +55,7 @@ fn push_wrapped(bytes: &mut Vec<u8>, datagram: &[u8], header_len: usize) -> Resu
     Ok(())
 }
 
-/// What a repair's payload, without padding, wraps: the low 16 bits of a number, and the payload under it. None where
+/// What a repair's payload, without padding, wraps: the low 16 bits of a number, and the payload under it. None if
 /// there are fewer than three bytes.
 pub fn wrapped_in(payload: &[u8]) -> Option<(u16, &[u8])>
     ensures { MatchOption result (wrapped_in payload.now ≡ None)

@@ -1,9 +1,9 @@
-//! Bytes written one behind the other.
+//! Bytes written one after the other.
 
 ghost use Rattle.std.specs.Prelude.{◌≡◌, ◌+◌, ◌≤◌, List, ℕ, length, ◌++◌};
 ghost use Rattle.rtp_wire.specs.Written.{IsWritten};
 
-/// Writes the bytes at this place, and returns the place behind them.
+/// Writes the bytes at this place, and returns the place after them.
 ///
 /// # Conditions
 /// They end at the buffer's end or before it.

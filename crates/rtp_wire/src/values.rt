@@ -50,7 +50,7 @@ impl From<u8> for VideoOrientation {
 /// When a frame was captured, by the clock of the one that captured it.
 #[derive(Clone, Copy, Debug, PartialEq, Eq, Drop)]
 pub struct AbsCaptureTime {
-    /// NTP time, in seconds with 32 bits before and 32 behind the point.
+    /// NTP time, in seconds with 32 bits before and 32 after the point.
     pub capture_time: u64,
     /// How far the sender's clock is ahead of the capturer's, in seconds, with 32 fractional bits.
     pub clock_offset: Option<i64>,

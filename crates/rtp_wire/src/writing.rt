@@ -42,7 +42,7 @@ impl RtpHeader {
     }
 
     /// Writes the header in front of the buffer, and returns its length (RFC 3550 5.1 and 5.3.1).
-    /// The bytes behind it stay.
+    /// The bytes after it stay.
     ///
     /// # Conditions
     /// The buffer has room for `wire_len` bytes; the payload type is below 128, and there are at most 15 contributing
@@ -89,7 +89,7 @@ impl RtpHeader {
         ]
     }
 
-    /// Writes the extension block at this place, and returns the place behind it.
+    /// Writes the extension block at this place, and returns the place after it.
     fn write_extension(&self, buf: &mut [u8], at: usize, exts: &ExtensionMap) -> usize
         requires { at + length (block_bytes (Some (block_of exts.now self.now.ext_vals))) ≤ length buf.old }
         ensures end { result ≡ at + length (block_bytes (Some (block_of exts.now self.now.ext_vals))) }
@@ -101,7 +101,7 @@ impl RtpHeader {
     }
 }
 
-/// Writes the words at this place, and returns the place behind them.
+/// Writes the words at this place, and returns the place after them.
 fn write_words(buf: &mut [u8], at: usize, words: &[u32]) -> usize
     requires { at + 4 * length words.now ≤ length buf.old }
     ensures end { result ≡ at + 4 * length words.now }

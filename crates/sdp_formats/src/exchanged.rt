@@ -36,11 +36,11 @@ impl Model for SdpOffer {
 }
 
 impl SdpOffer {
-    /// The offer of a text. What stands from the first line on that fits nowhere is passed over.
+    /// The offer of a text. What is from the first line on that fits nowhere is passed over.
     ///
     /// # Errors
     ///
-    /// `ParseError` where the text has no good header, or a section with a fault; `Memory` where memory runs out.
+    /// `ParseError` if the text has no good header, or a section with a fault; `Memory` if memory runs out.
     pub fn from_sdp_string(alloc: Global, input: &str) -> Result<SdpOffer, SdpError>
         ensures { ReadsText input.now result }
     {
@@ -59,7 +59,7 @@ impl SdpOffer {
     ///
     /// # Errors
     ///
-    /// `AllocError` where memory runs out.
+    /// `AllocError` if memory runs out.
     pub fn to_sdp_string(&self, alloc: Global) -> Result<String, AllocError>
         ensures { IfOk result (λ text. string_bytes text ≡ sdp_text self.now) }
     {
@@ -121,11 +121,11 @@ impl Model for SdpAnswer {
 }
 
 impl SdpAnswer {
-    /// The answer of a text. What stands from the first line on that fits nowhere is passed over.
+    /// The answer of a text. What is from the first line on that fits nowhere is passed over.
     ///
     /// # Errors
     ///
-    /// `ParseError` where the text has no good header, or a section with a fault; `Memory` where memory runs out.
+    /// `ParseError` if the text has no good header, or a section with a fault; `Memory` if memory runs out.
     pub fn from_sdp_string(alloc: Global, input: &str) -> Result<SdpAnswer, SdpError>
         ensures { ReadsText input.now result }
     {
@@ -144,7 +144,7 @@ impl SdpAnswer {
     ///
     /// # Errors
     ///
-    /// `AllocError` where memory runs out.
+    /// `AllocError` if memory runs out.
     pub fn to_sdp_string(&self, alloc: Global) -> Result<String, AllocError>
         ensures { IfOk result (λ text. string_bytes text ≡ sdp_text self.now) }
     {

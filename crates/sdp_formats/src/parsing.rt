@@ -9,11 +9,11 @@ use std::alloc::Global;
 
 /// What a text is read as.
 pub trait Parse: Sized {
-    /// What a text says. What stands from the first line on that fits nowhere is passed over.
+    /// What a text says. What is from the first line on that fits nowhere is passed over.
     ///
     /// # Errors
     ///
-    /// `ParseError` where the text has no good header, or a section with a fault; `Memory` where memory runs out.
+    /// `ParseError` if the text has no good header, or a section with a fault; `Memory` if memory runs out.
     fn parse(alloc: Global, input: &str) -> Result<Self, SdpError>;
 }
 

@@ -1,4 +1,4 @@
--- Values that are added one by one, where they aren't there yet, are those of the list, each once.
+-- Values that are added one by one, if they aren't there yet, are those of the list, each once.
 use Rattle.std.proofs.Common.{◌≡◌, ℕ, ◌==◌, Bool, true, false, not, ◌&&◌, ◌||◌, cond, List, [], ◌∷◌, ◌++◌, filter, fold}
 use Rattle.std.proofs.Common.{refl, sym, ap, ◌∙◌, append-nil, arith}
 use Rattle.std.proofs.lemmas.List.{append_assoc}

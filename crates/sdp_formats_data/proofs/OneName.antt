@@ -1,4 +1,4 @@
--- A set with one name more, which stands before the others.
+-- A set with one name more, which is before the others.
 use Rattle.std.proofs.Common.{◌≡◌, ◌∙◌, ℕ, ◌-◌, ◌<◌, Bool, true, cond, not, false, ◌||◌, ◌&&◌, List, ◌∷◌, BTreeSet, Bor}
 use Rattle.std.proofs.Common.{ap, arith, drop, drop-cons, get_or, length, nat_cmp, refl, suc, sym, subst, is_eq}
 use Rattle.std.specs.BTreeMap.{is_at}

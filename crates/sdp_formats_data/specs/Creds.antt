@@ -7,7 +7,7 @@ abbrev pub creds_view : Option (Bor (List ℕ) × Bor (List ℕ)) → Option (Li
 creds_view None = None
 creds_view (Some p) = Some (p.0.now, p.1.now)
 
--- The name and the password where both are given.
+-- The name and the password if both are given.
 abbrev pub with_pass : List ℕ → Option (List ℕ) → Option (List ℕ × List ℕ)
 with_pass name None = None
 with_pass name (Some pass) = Some (name, pass)

@@ -10,7 +10,7 @@ use sdp_formats_grammar::{Listed, Text};
 use sdp_formats_values::Pair;
 use std::alloc::{AllocError, Global};
 
-/// An attribute of the same kind with this text; `Unused` where the kind has none.
+/// An attribute of the same kind with this text; `Unused` if the kind has none.
 fn with_session_text(attribute: &SessionAttribute, text: Text) -> SessionAttribute
     ensures { result ≡ with_session_text attribute.now text }
 {
@@ -27,7 +27,7 @@ impl SessionAttribute {
     ///
     /// # Errors
     ///
-    /// `AllocError` where memory runs out.
+    /// `AllocError` if memory runs out.
     pub fn clone(&self, alloc: Global) -> Result<SessionAttribute, AllocError>
         ensures { IfOk result (λ copy. copy ≡ self.now) }
     {
@@ -60,7 +60,7 @@ impl SessionAttribute {
     ///
     /// # Errors
     ///
-    /// `AllocError` where memory runs out.
+    /// `AllocError` if memory runs out.
     pub fn clone_all(
         alloc: Global,
         attributes: &[SessionAttribute],
@@ -133,7 +133,7 @@ fn compound(alloc: Global, attribute: &MediaAttribute) -> Result<MediaAttribute,
     })
 }
 
-/// An attribute of the same kind with this text; `Unused` where the kind has none.
+/// An attribute of the same kind with this text; `Unused` if the kind has none.
 fn with_text(attribute: &MediaAttribute, text: Text) -> MediaAttribute
     ensures { result ≡ with_text attribute.now text }
 {
@@ -152,7 +152,7 @@ impl MediaAttribute {
     ///
     /// # Errors
     ///
-    /// `AllocError` where memory runs out.
+    /// `AllocError` if memory runs out.
     #[tactic(auto, unfolding(crate::specs::Compound::is_compound))]
     pub fn clone(&self, alloc: Global) -> Result<MediaAttribute, AllocError>
         ensures { IfOk result (λ copy. copy ≡ self.now) }
@@ -188,7 +188,7 @@ impl MediaAttribute {
     ///
     /// # Errors
     ///
-    /// `AllocError` where memory runs out.
+    /// `AllocError` if memory runs out.
     pub fn clone_all(
         alloc: Global,
         attributes: &[MediaAttribute],

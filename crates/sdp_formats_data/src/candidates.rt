@@ -47,7 +47,7 @@ impl Sdp {
     ///
     /// # Errors
     ///
-    /// `AllocError` where memory runs out.
+    /// `AllocError` if memory runs out.
     pub fn ice_candidates(&self, alloc: Global) -> Result<Vec<&Candidate>, AllocError>
         ensures { IfOk result (λ once. AreEachOnce (candidates_of self.now) (borrowed once.items)) }
     {

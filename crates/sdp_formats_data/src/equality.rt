@@ -1,4 +1,4 @@
-//! What `==` says of session texts: that they are the same exactly where it holds.
+//! What `==` says of session texts: that they are the same if and only if it holds.
 
 ghost use Rattle.std.specs.Prelude.{◌≡◌, ◌↔◌, IsTrue, List, Option, ℕ};
 ghost use Rattle.sdp_formats_values.specs.declared.bandwidth.Bandwidth.{Bandwidth};
@@ -43,7 +43,7 @@ fn rtp_maps_law()
     ensures { (a b : RtpMap) → IsTrue (⟦<RtpMap as PartialEq>⟧.eq a b) ↔ (a ≡ b) }
 {}
 
-/// Two bandwidths are equal by `==` exactly where they are the same.
+/// Two bandwidths are equal by `==` if and only if they are the same.
 pub fn bandwidth_equality_law()
     ensures { (a b : Bandwidth) → IsTrue (⟦<Bandwidth as PartialEq>⟧.eq a b) ↔ (a ≡ b) }
 {
@@ -56,7 +56,7 @@ fn bandwidths_if_any_law()
     bandwidth_equality_law();
 }
 
-/// Two attributes of sections are equal by `==` exactly where they are the same.
+/// Two attributes of sections are equal by `==` if and only if they are the same.
 pub fn attribute_equality_law()
     ensures { (a b : MediaAttribute) → IsTrue (⟦<MediaAttribute as PartialEq>⟧.eq a b) ↔ (a ≡ b) }
 {
@@ -84,7 +84,7 @@ fn attribute_lists_law()
     attribute_equality_law();
 }
 
-/// Two attributes of sessions are equal by `==` exactly where they are the same.
+/// Two attributes of sessions are equal by `==` if and only if they are the same.
 pub fn session_attribute_equality_law()
     ensures { (a b : SessionAttribute) → IsTrue (⟦<SessionAttribute as PartialEq>⟧.eq a b) ↔ (a ≡ b) }
 {
@@ -113,7 +113,7 @@ fn carried_law()
     ensures { (a b : Proto) → IsTrue (⟦<Proto as PartialEq>⟧.eq a b) ↔ (a ≡ b) }
 {}
 
-/// Two sections are equal by `==` exactly where they are the same.
+/// Two sections are equal by `==` if and only if they are the same.
 pub fn section_equality_law()
     ensures { (a b : MediaLine) → IsTrue (⟦<MediaLine as PartialEq>⟧.eq a b) ↔ (a ≡ b) }
 {
@@ -131,7 +131,7 @@ fn section_lists_law()
     section_equality_law();
 }
 
-/// Two sessions are equal by `==` exactly where they are the same.
+/// Two sessions are equal by `==` if and only if they are the same.
 pub fn session_equality_law()
     ensures { (a b : Session) → IsTrue (⟦<Session as PartialEq>⟧.eq a b) ↔ (a ≡ b) }
 {
@@ -140,7 +140,7 @@ pub fn session_equality_law()
     session_attribute_lists_law();
 }
 
-/// Two session texts are equal by `==` exactly where they are the same.
+/// Two session texts are equal by `==` if and only if they are the same.
 pub fn sdp_equality_law()
     ensures { (a b : Sdp) → IsTrue (⟦<Sdp as PartialEq>⟧.eq a b) ↔ (a ≡ b) }
 {

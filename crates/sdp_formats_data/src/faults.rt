@@ -96,7 +96,7 @@ fn last_fault(section: &MediaLine) -> Option<Inconsistency>
     None
 }
 
-/// The first fault of direction, payload types and what comes behind.
+/// The first fault of direction, payload types and what comes after.
 fn later_fault(section: &MediaLine) -> Option<Inconsistency>
     ensures { result ≡ later_fault_of section.now }
 {
@@ -118,7 +118,7 @@ pub fn are_consistent(sections: &[MediaLine]) -> bool
 }
 
 impl MediaLine {
-    /// The first fault of a section; None where it has none.
+    /// The first fault of a section; None if it has none.
     pub fn check_consistent(&self) -> Option<Inconsistency>
         ensures { result ≡ fault_of self.now }
     {

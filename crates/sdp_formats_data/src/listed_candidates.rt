@@ -9,11 +9,11 @@ use crate::session::SessionAttribute;
 use sdp_formats_values::Candidate;
 use std::alloc::AllocError;
 
-/// Adds the candidates that attributes of a session give behind others.
+/// Adds the candidates that attributes of a session give after others.
 ///
 /// # Errors
 ///
-/// `AllocError` where memory runs out.
+/// `AllocError` if memory runs out.
 #[tactic(auto, unfolding(crate::specs::ListedCandidates::session_candidate))]
 pub(crate) fn push_of_session<'a>(
     candidates: &mut Vec<&'a Candidate>,
@@ -30,11 +30,11 @@ pub(crate) fn push_of_session<'a>(
     Ok(())
 }
 
-/// Adds the candidates that attributes of a section give behind others.
+/// Adds the candidates that attributes of a section give after others.
 ///
 /// # Errors
 ///
-/// `AllocError` where memory runs out.
+/// `AllocError` if memory runs out.
 #[tactic(auto, unfolding(crate::specs::ListedCandidates::section_candidate))]
 pub(crate) fn push_of_section<'a>(
     candidates: &mut Vec<&'a Candidate>,

@@ -35,7 +35,7 @@ fn count_maps(attributes: &[MediaAttribute], pt: Pt) -> usize
         .count()
 }
 
-/// Is the payload type mapped once, or not at all where it has a meaning of its own?
+/// Is the payload type mapped once, or not at all if it has a meaning of its own?
 fn is_mapped(attributes: &[MediaAttribute], pt: Pt) -> bool
     ensures { result ≡ is_mapped attributes.now pt }
 {

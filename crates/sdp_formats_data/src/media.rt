@@ -76,7 +76,7 @@ pub struct RtpMap {
     pub codec: Codec,
     /// The clock rate in ticks a second.
     pub clock_rate: Frequency,
-    /// The number of audio channels, where it is given.
+    /// The number of audio channels, if it is given.
     pub channels: Option<u8>,
 }
 
@@ -145,21 +145,21 @@ pub enum MediaAttribute {
     EndOfCandidates,
     /// `a=rtpmap` (RFC 8866 6.6).
     RtpMap {
-        /// The payload type, up to 127 where it was read.
+        /// The payload type, up to 127 if it was read.
         pt: Pt,
         /// What it stands for.
         value: RtpMap,
     },
     /// `a=rtcp-fb` (RFC 4585 4.2).
     RtcpFb {
-        /// The payload type, up to 127 where it was read.
+        /// The payload type, up to 127 if it was read.
         pt: Pt,
         /// The feedback, as `nack pli`.
         value: Text,
     },
     /// `a=fmtp` (RFC 8866 6.15).
     Fmtp {
-        /// The payload type, up to 127 where it was read.
+        /// The payload type, up to 127 if it was read.
         pt: Pt,
         /// The parameters.
         values: Listed<FormatParam>,
@@ -193,7 +193,7 @@ pub enum MediaAttribute {
         /// Its value.
         value: Text,
     },
-    /// Any other attribute: what stands behind `a=`.
+    /// Any other attribute: what follows `a=`.
     Unused(Text),
 }
 

@@ -9,7 +9,7 @@ use std::alloc::{AllocError, Global};
 use std::collections::BTreeSet;
 use std::marker::Model;
 
-/// A list of names, as a set by which one is found, and whether none stands twice.
+/// A list of names, as a set by which one is found, and whether none is twice.
 #[derive(Drop)]
 pub struct NameSet<'a> {
     listed: &'a [Mid],
@@ -33,7 +33,7 @@ impl<'a> NameSet<'a> {
     ///
     /// # Errors
     ///
-    /// `AllocError` where memory runs out.
+    /// `AllocError` if memory runs out.
     pub fn of(alloc: Global, listed: &'a [Mid]) -> Result<NameSet<'a>, AllocError>
         ensures { IfOk result (λ s. s ≡ listed.now) }
     {
@@ -52,7 +52,7 @@ impl<'a> NameSet<'a> {
         self.set.contains(name.as_str())
     }
 
-    /// Whether none stands twice.
+    /// Whether none is twice.
     pub fn are_apart(&self) -> bool
         ensures { result ≡ are_apart self.now }
     {

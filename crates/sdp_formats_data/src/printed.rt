@@ -36,7 +36,7 @@ impl fmt::Display for Types<'_> {
     }
 }
 
-/// The payload types of an `a=rid` line, ` pt=111,112`; nothing where there is none.
+/// The payload types of an `a=rid` line, ` pt=111,112`; nothing if there is none.
 #[derive(Drop)]
 pub(crate) struct RidTypes<'a>(pub(crate) &'a [Pt]);
 

@@ -63,7 +63,7 @@ impl fmt::Debug for MediaAttribute {
     }
 }
 
-/// What stands before the text of an attribute that is one text; nothing for another.
+/// What is before the text of an attribute that is one text; nothing for another.
 fn name_before(attribute: &MediaAttribute) -> &'static str
     ensures { result.now ≡ name_before attribute.now }
 {
@@ -184,7 +184,7 @@ impl fmt::Display for Formats<'_> {
     }
 }
 
-// Attributes one behind the other.
+// Attributes one after the other.
 #[derive(Drop)]
 struct Attributes<'a>(&'a [MediaAttribute]);
 
@@ -199,7 +199,7 @@ impl fmt::Display for Attributes<'_> {
     }
 }
 
-/// Its lines with their ends: port 9, or 0 where it is disabled, and the address 0.0.0.0 (RFC 8829 5.2.1).
+/// Its lines with their ends: port 9, or 0 if it is disabled, and the address 0.0.0.0 (RFC 8829 5.2.1).
 impl fmt::Display for MediaLine {
     ghost use Rattle.std.specs.Prelude.{Some};
     ghost use Rattle.sdp_formats_data.specs.PrintedMedia.{section_text};
@@ -220,7 +220,7 @@ impl fmt::Display for MediaLine {
 }
 
 impl MediaLine {
-    /// The port of its line `m=`: 0 where it is disabled, else 9, the port of a section without candidates.
+    /// The port of its line `m=`: 0 if it is disabled, else 9, the port of a section without candidates.
     pub fn port(&self) -> u16
         ensures { result ≡ port_of self.now }
     {

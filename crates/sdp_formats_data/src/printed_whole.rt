@@ -76,7 +76,7 @@ impl fmt::Display for Group<'_> {
     }
 }
 
-/// Attributes to be printed, one behind the other.
+/// Attributes to be printed, one after the other.
 #[derive(Drop)]
 pub struct SessionAttributes<'a>(pub &'a [SessionAttribute]);
 
@@ -91,7 +91,7 @@ impl fmt::Display for SessionAttributes<'_> {
     }
 }
 
-/// Sections to be printed, one behind the other.
+/// Sections to be printed, one after the other.
 #[derive(Drop)]
 pub struct Sections<'a>(pub &'a [MediaLine]);
 
@@ -144,7 +144,7 @@ impl Sdp {
     ///
     /// # Errors
     ///
-    /// `AllocError` where memory runs out.
+    /// `AllocError` if memory runs out.
     pub fn to_sdp_string(&self, alloc: Global) -> Result<String, AllocError>
         ensures { IfOk result (λ text. string_bytes text ≡ sdp_text self.now) }
     {

@@ -48,7 +48,7 @@ fn apts_agree_with(attributes: &[MediaAttribute], pt: Pt, apt: Pt) -> bool
         .all(|attribute| attribute_agrees(attribute, pt, apt))
 }
 
-/// The same, where a type that is named again costs nothing.
+/// The same, if a type that is named again costs nothing.
 fn is_known_apt(attributes: &[MediaAttribute], known: &mut [Option<Pt>], pt: Pt, apt: Pt) -> bool
     requires { KnowsApts attributes.now known.old }
     ensures value { result ≡ apts_agree_with attributes.now pt apt }

@@ -28,7 +28,7 @@ fn name(alloc: Global, word: &str) -> Result<Option<Text>, AllocError>
     Ok(Some(Text::of(String::from_str(alloc, word.trim())?)))
 }
 
-/// The name that a word gives, where there is one.
+/// The name that a word gives, if there is one.
 pub(crate) fn name_given(alloc: Global, word: Option<&str>) -> Result<Option<Text>, AllocError>
     ensures { IfOk result (λ name. name ≡ name_given (option_copied word.entry)) }
 {

@@ -42,7 +42,7 @@ impl MediaLine {
     ///
     /// # Errors
     ///
-    /// `AllocError` where memory runs out.
+    /// `AllocError` if memory runs out.
     pub fn rids(&self, alloc: Global) -> Result<Vec<Rid>, AllocError>
         ensures { IfOk result (λ rids. rids.items ≡ flat_map rid_in self.now.attrs) }
     {
@@ -58,7 +58,7 @@ impl MediaLine {
     ///
     /// # Errors
     ///
-    /// `AllocError` where memory runs out.
+    /// `AllocError` if memory runs out.
     pub fn extmaps(&self, alloc: Global) -> Result<Vec<(u8, &Extension)>, AllocError>
         ensures { IfOk result (λ extmaps. extmaps_view extmaps.items ≡ flat_map extmap_in self.now.attrs) }
     {

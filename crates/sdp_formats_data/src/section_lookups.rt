@@ -41,7 +41,7 @@ fn best_fingerprint(attributes: &[MediaAttribute]) -> Option<&Fingerprint>
 }
 
 impl MediaLine {
-    /// The name of the section, of its first `a=mid` (RFC 5888 4). None where it has none, which `check_consistent`
+    /// The name of the section, of its first `a=mid` (RFC 5888 4). None if it has none, which `check_consistent`
     /// tells.
     #[tactic(auto, unfolding(crate::specs::Lookups::mid_in))]
     pub fn mid(&self) -> Option<Mid>
@@ -182,7 +182,7 @@ impl MediaLine {
         None
     }
 
-    /// The credentials of connectivity checks: the first name and the first password, where both are given (RFC 8839
+    /// The credentials of connectivity checks: the first name and the first password, if both are given (RFC 8839
     /// 5.4).
     pub fn ice_creds(&self) -> Option<(&Text, &Text)>
         ensures { creds_view result ≡ creds_of self.now.attrs }
@@ -207,7 +207,7 @@ impl MediaLine {
     ///
     /// # Errors
     ///
-    /// `AllocError` where memory runs out.
+    /// `AllocError` if memory runs out.
     pub fn ice_candidates(&self, alloc: Global) -> Result<Vec<&Candidate>, AllocError>
         ensures { IfOk result (λ candidates. borrowed candidates.items ≡ section_candidates self.now) }
     {

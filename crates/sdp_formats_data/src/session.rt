@@ -1,4 +1,4 @@
-//! The session: what stands before the first section.
+//! The session: what is before the first section.
 
 ghost use Rattle.std.specs.Prelude.{◌≡◌, [], None};
 
@@ -12,13 +12,13 @@ use std::fmt;
 /// A session text (RFC 8866 5).
 #[derive(Debug, PartialEq, Eq, Drop)]
 pub struct Sdp {
-    /// What stands before the first section.
+    /// What is before the first section.
     pub session: Session,
     /// The sections, in order.
     pub media_lines: Listed<MediaLine>,
 }
 
-/// What stands before the first section.
+/// What is before the first section.
 #[derive(Debug, PartialEq, Eq)]
 pub struct Session {
     /// The number of the session (RFC 8866 5.2).
@@ -88,7 +88,7 @@ pub enum SessionAttribute {
     Candidate(Candidate),
     /// `a=end-of-candidates` (RFC 8840 8.2).
     EndOfCandidates,
-    /// Any other attribute: what stands behind `a=`.
+    /// Any other attribute: what follows `a=`.
     Unused(Text),
 }
 

@@ -88,7 +88,7 @@ impl Session {
         best_fingerprint(self.attrs.as_slice())
     }
 
-    /// The credentials of connectivity checks: the first name and the first password, where both are given (RFC 8839
+    /// The credentials of connectivity checks: the first name and the first password, if both are given (RFC 8839
     /// 5.4).
     pub fn ice_creds(&self) -> Option<(&Text, &Text)>
         ensures { creds_view result ≡ creds_of self.now.attrs }
@@ -124,7 +124,7 @@ impl Session {
     ///
     /// # Errors
     ///
-    /// `AllocError` where memory runs out.
+    /// `AllocError` if memory runs out.
     pub fn ice_candidates(&self, alloc: Global) -> Result<Vec<&Candidate>, AllocError>
         ensures { IfOk result (λ candidates. borrowed candidates.items ≡ session_candidates self.now) }
     {

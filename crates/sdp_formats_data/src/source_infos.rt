@@ -29,7 +29,7 @@ impl MediaLine {
     ///
     /// # Errors
     ///
-    /// `AllocError` where memory runs out.
+    /// `AllocError` if memory runs out.
     pub fn ssrc_info(&self, alloc: Global) -> Result<Vec<SsrcInfo>, AllocError>
         ensures { IfOk result (λ infos. infos.items ≡ infos_of self.now.attrs) }
     {

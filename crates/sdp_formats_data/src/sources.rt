@@ -84,7 +84,7 @@ fn push_repairing(
 ///
 /// # Errors
 ///
-/// `AllocError` where memory runs out.
+/// `AllocError` if memory runs out.
 pub fn sources_of(alloc: Global, attributes: &[MediaAttribute]) -> Result<Vec<Ssrc>, AllocError>
     ensures { IfOk result (λ sources. sources.items ≡ sources_of attributes.now) }
 {

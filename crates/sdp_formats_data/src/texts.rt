@@ -13,7 +13,7 @@ impl MediaLine {
     ///
     /// # Errors
     ///
-    /// `AllocError` where memory runs out.
+    /// `AllocError` if memory runs out.
     pub fn clone(&self, alloc: Global) -> Result<MediaLine, AllocError>
         ensures { IfOk result (λ copy. copy ≡ self.now) }
     {
@@ -31,7 +31,7 @@ impl MediaLine {
     ///
     /// # Errors
     ///
-    /// `AllocError` where memory runs out.
+    /// `AllocError` if memory runs out.
     pub fn clone_all(alloc: Global, sections: &[MediaLine]) -> Result<Listed<MediaLine>, AllocError>
         ensures { IfOk result (λ copies. copies ≡ sections.now) }
     {
@@ -48,7 +48,7 @@ impl Session {
     ///
     /// # Errors
     ///
-    /// `AllocError` where memory runs out.
+    /// `AllocError` if memory runs out.
     pub fn clone(&self, alloc: Global) -> Result<Session, AllocError>
         ensures { IfOk result (λ copy. copy ≡ self.now) }
     {
@@ -65,7 +65,7 @@ impl Sdp {
     ///
     /// # Errors
     ///
-    /// `AllocError` where memory runs out.
+    /// `AllocError` if memory runs out.
     pub fn clone(&self, alloc: Global) -> Result<Sdp, AllocError>
         ensures { IfOk result (λ copy. copy ≡ self.now) }
     {

@@ -1,4 +1,4 @@
-//! What `==` says of values of session texts: that they are the same exactly where it holds.
+//! What `==` says of values of session texts: that they are the same if and only if it holds.
 
 ghost use Rattle.std.specs.Prelude.{◌≡◌, ◌↔◌, IsTrue, List, Option, ℕ};
 ghost use Rattle.sdp_formats_values.specs.declared.candidate.Candidate.{Candidate};
@@ -44,7 +44,7 @@ pub(crate) fn mids_law()
     ensures { (a b : List ℕ) → IsTrue (⟦<Mid as PartialEq>⟧.eq a b) ↔ (a ≡ b) }
 {}
 
-/// Two lists of names are equal by `==` exactly where they are the same.
+/// Two lists of names are equal by `==` if and only if they are the same.
 #[tactic(auto, using(crate::proofs::AlikeLists::alike_lists))]
 pub(crate) fn mid_lists_law()
     ensures { (a b : List (List ℕ)) → IsTrue (⟦<Listed<Mid> as PartialEq>⟧.eq a b) ↔ (a ≡ b) }
@@ -186,7 +186,7 @@ fn related_if_any_law()
     related_law();
 }
 
-/// Two candidates are equal by `==` exactly where all their fields are (RFC 8839 5.1).
+/// Two candidates are equal by `==` if and only if all their fields are (RFC 8839 5.1).
 pub fn candidate_equality_law()
     ensures { (a b : Candidate) → IsTrue (⟦<Candidate as PartialEq>⟧.eq a b) ↔ (a ≡ b) }
 {

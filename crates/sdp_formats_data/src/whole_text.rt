@@ -104,7 +104,7 @@ impl Sdp {
     ///
     /// # Errors
     ///
-    /// `AllocError` where memory runs out.
+    /// `AllocError` if memory runs out.
     pub fn is_whole(&self, alloc: Global) -> Result<bool, AllocError>
         ensures { IfOk result (λ r. IsTrue r ↔ IsWhole self.now) }
     {
@@ -122,7 +122,7 @@ impl Sdp {
     ///
     /// # Errors
     ///
-    /// `Inconsistent` where they don't go together; `Memory` where memory runs out.
+    /// `Inconsistent` if they don't go together; `Memory` if memory runs out.
     pub fn assert_consistency(&self, alloc: Global) -> Result<(), SdpError>
         ensures { AssertsWhole self.now result }
     {

@@ -58,7 +58,7 @@ empty_of : {A : Type 0} (xs : List A) → length xs ≡ 0 → xs ≡ []
 empty_of [] h = refl
 empty_of (x ∷ xs) h = absurd (cc)
 
--- the first text, and then each other behind the separator
+-- the first text, and then each other after the separator
 pub joined_whole : {W T : Type 0} (took : W → List ℕ → W → Type 0) (out : T → Option (List ℕ)) (s : List ℕ)
     (items : List T) (first : T) (rest left : List T) (f g h : Formatter W) (u v : Unit {0}) → items ≡ first ∷ rest
     → length left ≡ 0 → DisplaysOnOk took f (Ok u) (out first) g

@@ -7,7 +7,7 @@ use Rattle.std.specs.declared.fmt.Formatter.{Formatter}
 use Rattle.std.specs.Fmt.{DisplaysOnOk, digits}
 use Rattle.sdp_formats_grammar.specs.Bind.{◌>>=◌}
 
--- Texts one behind the other.
+-- Texts one after the other.
 abbrev pub spelled : List (List ℕ) → List ℕ
 spelled [] = []
 spelled (text ∷ []) = text

@@ -40,7 +40,7 @@ no_colon (b ∷ bs) h =
     let two = both_true (not (b == 58)) (lacks_colon bs) h in
     (λ same. true_false (sym ((Decides-eqb b 58).1 same) ∙ not_true (b == 58) two.0), no_colon bs two.1)
 
--- what stands behind a name and its colon, by the cut at the first colon
+-- what follows a name and its colon, by the cut at the first colon
 abbrev at_name : List ℕ → Option (List ℕ × List ℕ) → Option (List ℕ)
 at_name name None = None
 at_name name (Some p) = cond (bytes_eq p.0 name) (Some p.1) None

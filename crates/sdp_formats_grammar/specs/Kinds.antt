@@ -7,7 +7,7 @@ use Rattle.sdp_formats_grammar.specs.Form.{Form, told, made, after, either}
 use Rattle.sdp_formats_grammar.specs.Split.{split_first}
 use Rattle.sdp_formats_grammar.specs.Tables.{Table, word_of}
 
--- A kind: a name and the form of what stands behind its colon, or a table of words.
+-- A kind: a name and the form of what follows its colon, or a table of words.
 pub data Kind (A : Type 0) : Type 1 where
   Named : List ℕ → Form A → Kind A
   OneOf : Table A → Kind A
@@ -26,14 +26,14 @@ abbrev pub first_of : {A : Type 0} → List (Kind A) → Form A → Form A
 first_of [] otherwise = otherwise
 first_of (kind ∷ kinds) otherwise = either (kind_form kind) (first_of kinds otherwise)
 
--- What a value says behind a name: what the kind of this name reads of it.
+-- What a value says after a name: what the kind of this name reads of it.
 abbrev pub value_of : {A : Type 0} → List (Kind A) → List ℕ → List ℕ → Option A
 value_of [] name value = None
 value_of (Named other form ∷ kinds) name value =
     if bytes_eq name other then form.reads value else value_of kinds name value
 value_of (OneOf table ∷ kinds) name value = value_of kinds name value
 
--- What a word says that stands alone.
+-- What a word says that is alone.
 abbrev pub alone_of : {A : Type 0} → List (Kind A) → List ℕ → Option A
 alone_of [] text = None
 alone_of (Named name form ∷ kinds) text = alone_of kinds text
@@ -47,7 +47,7 @@ by_name kinds text None = alone_of kinds text
 abbrev pub by_kind : {A : Type 0} → List (Kind A) → Form A → List ℕ → Option A
 by_kind kinds otherwise text = option_or (by_name kinds text (split_first 58 text)) (otherwise.reads text)
 
--- No colon stands in the text.
+-- No colon is in the text.
 abbrev pub lacks_colon : List ℕ → Bool
 lacks_colon [] = true
 lacks_colon (b ∷ bs) = not (b == 58) && lacks_colon bs

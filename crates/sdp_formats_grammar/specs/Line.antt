@@ -19,7 +19,7 @@ IsLine text content rest = IsEnded text content rest × Lacks 10 content × Lack
 abbrev pub LineOf : {A : Type 0} → (List ℕ → A → Type 0) → List ℕ → A → List ℕ → Type 0
 LineOf F text a rest = (content : List ℕ) × IsLine text content rest × F content a
 
--- Whether a CR stands in it.
+-- Whether a CR is in it.
 abbrev pub has_return : List ℕ → Bool
 has_return t = list_any (λ b. b == 13) t
 

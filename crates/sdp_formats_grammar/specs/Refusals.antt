@@ -29,7 +29,7 @@ halved p = (p.0.now, option_copied p.1)
 abbrev pub fielded : Option (Bor (List ℕ)) × Option (Bor (List ℕ)) → Option (List ℕ) × Option (List ℕ)
 fielded p = (option_copied p.0, option_copied p.1)
 
--- What was read, or none where the text is unfit.
+-- What was read, or none if the text is unfit.
 abbrev pub fitted_of : {A : Type 0} → Result A Refusal → Result (Option A) Refusal
 fitted_of (Ok a) = Ok (Some a)
 fitted_of (Err Unfit) = Ok None

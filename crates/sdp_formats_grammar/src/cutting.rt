@@ -42,7 +42,7 @@ fn next_line(text: &str) -> Option<(&str, &str)>
     }
 }
 
-/// The content of the line that a text begins with, and what stands behind the line's end.
+/// The content of the line that a text begins with, and what follows the line's end.
 pub fn line(text: &str) -> Option<(&str, &str)>
     ensures { TakesLine text.now result }
 {

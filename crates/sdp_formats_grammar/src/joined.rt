@@ -1,4 +1,4 @@
-//! Values to be printed one behind the other.
+//! Values to be printed one after the other.
 
 use std::fmt;
 
@@ -27,7 +27,7 @@ impl<'a, T: fmt::Display> fmt::Display for Joined<'a, T> {
     }
 }
 
-/// A value that may be there, to be printed behind a text: the text, and the value. Nothing is printed where there is
+/// A value that may be there, to be printed after a text: the text, and the value. Nothing is printed if there is
 /// no value.
 #[derive(Drop)]
 pub struct Maybe<'a, T>(pub &'a str, pub &'a Option<T>);

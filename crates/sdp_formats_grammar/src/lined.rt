@@ -23,11 +23,11 @@ pub trait Lined<T: Drop> {
         ensures { IsExact form };
 }
 
-/// What the line says that a text begins with, and the text behind it.
+/// What the line says that a text begins with, and the text after it.
 ///
 /// # Errors
 ///
-/// `Unfit` where the text begins with no line of the kind, `Memory` where memory runs out.
+/// `Unfit` if the text begins with no line of the kind, `Memory` if memory runs out.
 pub fn line_of<T: Drop, L: Lined<T>>(alloc: Global, text: &str) -> Result<(T, &str), Refusal>
     ensures steps { Steps (LineOf L.form.Says) text.now result }
     ensures shortens { Shortens text.now result }

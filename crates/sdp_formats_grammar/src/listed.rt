@@ -73,7 +73,7 @@ impl<T> Listed<T> {
     ///
     /// # Errors
     ///
-    /// `AllocError` where memory runs out.
+    /// `AllocError` if memory runs out.
     pub fn copied(&self, alloc: Global) -> Result<Listed<T>, AllocError>
     where
         T: Copy,
@@ -84,11 +84,11 @@ impl<T> Listed<T> {
         Ok(Listed { items })
     }
 
-    /// Adds a value behind all others.
+    /// Adds a value after all others.
     ///
     /// # Errors
     ///
-    /// `AllocError` where memory runs out; the list is then as before.
+    /// `AllocError` if memory runs out; the list is then as before.
     pub fn push(&mut self, value: T) -> Result<(), AllocError>
     where
         T: Drop,

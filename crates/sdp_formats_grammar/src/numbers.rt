@@ -19,7 +19,7 @@ pub fn has_digits_alone(text: &str) -> bool
 ///
 /// # Errors
 ///
-/// `Unfit` where it writes none.
+/// `Unfit` if it writes none.
 pub fn number_8(text: &str) -> Result<u8, Refusal>
     ensures gives { Gives result (number_below (2 ^ 8) text.now) }
     ensures never_memory { IfErr result (λ e. e ≢ Refusal.Memory) }
@@ -31,7 +31,7 @@ pub fn number_8(text: &str) -> Result<u8, Refusal>
 ///
 /// # Errors
 ///
-/// `Unfit` where it writes none.
+/// `Unfit` if it writes none.
 pub fn number_16(text: &str) -> Result<u16, Refusal>
     ensures gives { Gives result (number_below (2 ^ 16) text.now) }
     ensures never_memory { IfErr result (λ e. e ≢ Refusal.Memory) }
@@ -43,7 +43,7 @@ pub fn number_16(text: &str) -> Result<u16, Refusal>
 ///
 /// # Errors
 ///
-/// `Unfit` where it writes none.
+/// `Unfit` if it writes none.
 pub fn number_32(text: &str) -> Result<u32, Refusal>
     ensures gives { Gives result (number_below (2 ^ 32) text.now) }
     ensures never_memory { IfErr result (λ e. e ≢ Refusal.Memory) }
@@ -55,7 +55,7 @@ pub fn number_32(text: &str) -> Result<u32, Refusal>
 ///
 /// # Errors
 ///
-/// `Unfit` where it writes none.
+/// `Unfit` if it writes none.
 pub fn number_64(text: &str) -> Result<u64, Refusal>
     ensures gives { Gives result (number_below (2 ^ 64) text.now) }
     ensures never_memory { IfErr result (λ e. e ≢ Refusal.Memory) }
@@ -67,7 +67,7 @@ pub fn number_64(text: &str) -> Result<u64, Refusal>
 ///
 /// # Errors
 ///
-/// `Unfit` where it is there and writes none.
+/// `Unfit` if it is there and writes none.
 pub fn maybe_number_8(text: Option<&str>) -> Result<Option<u8>, Refusal>
     ensures gives { Gives result (maybe (number_below (2 ^ 8)) (option_copied text.entry)) }
     ensures never_memory { IfErr result (λ e. e ≢ Refusal.Memory) }

@@ -10,7 +10,7 @@ use crate::refusal::Refusal;
 use crate::text::Text;
 use std::alloc::Global;
 
-/// What stands before the first such character, and behind it.
+/// What is before the first such character, and after it.
 ///
 /// # Conditions
 ///
@@ -18,7 +18,7 @@ use std::alloc::Global;
 ///
 /// # Errors
 ///
-/// `Unfit` where there is no such character.
+/// `Unfit` if there is no such character.
 pub fn split(text: &str, at: char) -> Result<(&str, &str), Refusal>
     requires { at < 128 }
     ensures gives { GivesBy parted result (split_first at text.now) }
@@ -27,7 +27,7 @@ pub fn split(text: &str, at: char) -> Result<(&str, &str), Refusal>
     text.split_once(at).ok_or(Refusal::Unfit)
 }
 
-/// The name of an attribute and its value: what stands before the first colon, and behind it. None where there is no
+/// The name of an attribute and its value: what is before the first colon, and after it. None if there is no
 /// colon.
 pub fn named(text: &str) -> Option<(&str, &str)>
     ensures { option_map parted result ≡ split_first 58 text.now }
@@ -35,7 +35,7 @@ pub fn named(text: &str) -> Option<(&str, &str)>
     text.split_once(':')
 }
 
-/// What stands before the first such character, and behind it where there is one.
+/// What is before the first such character, and after it if there is one.
 ///
 /// # Conditions
 ///
@@ -50,18 +50,18 @@ pub fn halves(text: &str, at: char) -> (&str, Option<&str>)
     }
 }
 
-/// What stands behind the words, where the text begins with them.
+/// What follows the words, if the text begins with them.
 pub fn stripped<'a>(text: &'a str, words: &str) -> Option<&'a str>
     ensures { option_copied result ≡ behind words.now text.now }
 {
     text.strip_prefix(words)
 }
 
-/// The word behind a field's name, where the text begins with the name, and what is left behind a blank.
+/// The word after a field's name, if the text begins with the name, and what is left after a blank.
 ///
 /// # Errors
 ///
-/// `Unfit` where the word behind the name is empty.
+/// `Unfit` if the word after the name is empty.
 pub fn field<'a>(
     text: Option<&'a str>,
     name: &str,
@@ -79,11 +79,11 @@ pub fn field<'a>(
     Ok((Some(some(word)?), rest))
 }
 
-/// What was read, or None where the text is unfit.
+/// What was read, or None if the text is unfit.
 ///
 /// # Errors
 ///
-/// `Memory` where memory ran out.
+/// `Memory` if memory ran out.
 pub fn fitted<T>(read: Result<T, Refusal>) -> Result<Option<T>, Refusal>
     ensures { result ≡ fitted_of read }
 {
@@ -98,7 +98,7 @@ pub fn fitted<T>(read: Result<T, Refusal>) -> Result<Option<T>, Refusal>
 ///
 /// # Errors
 ///
-/// `Memory` where memory runs out.
+/// `Memory` if memory runs out.
 pub fn copy(alloc: Global, text: &str) -> Result<Text, Refusal>
     ensures { Gives result (Some text.now) }
 {
@@ -109,7 +109,7 @@ pub fn copy(alloc: Global, text: &str) -> Result<Text, Refusal>
 ///
 /// # Errors
 ///
-/// `Memory` where memory runs out.
+/// `Memory` if memory runs out.
 pub fn copied(alloc: Global, text: Option<&str>) -> Result<Option<Text>, Refusal>
     ensures { Gives result (Some (option_copied text.entry)) }
 {
@@ -119,11 +119,11 @@ pub fn copied(alloc: Global, text: Option<&str>) -> Result<Option<Text>, Refusal
     }
 }
 
-/// What stands behind the words that the text begins with.
+/// What follows the words that the text begins with.
 ///
 /// # Errors
 ///
-/// `Unfit` where it doesn't begin with them.
+/// `Unfit` if it doesn't begin with them.
 pub fn behind<'a>(text: &'a str, words: &str) -> Result<&'a str, Refusal>
     ensures gives { GivesBy (λ x. x.now) result (behind words.now text.now) }
     ensures never_memory { IfErr result (λ e. e ≢ Refusal.Memory) }
@@ -135,7 +135,7 @@ pub fn behind<'a>(text: &'a str, words: &str) -> Result<&'a str, Refusal>
 ///
 /// # Errors
 ///
-/// `Unfit` where it is there and empty.
+/// `Unfit` if it is there and empty.
 pub fn maybe_some<'a>(text: Option<&'a str>) -> Result<Option<&'a str>, Refusal>
     ensures gives { GivesBy option_copied result (maybe some_text (option_copied text.entry)) }
     ensures never_memory { IfErr result (λ e. e ≢ Refusal.Memory) }
@@ -150,7 +150,7 @@ pub fn maybe_some<'a>(text: Option<&'a str>) -> Result<Option<&'a str>, Refusal>
 ///
 /// # Errors
 ///
-/// `Unfit` where it is empty.
+/// `Unfit` if it is empty.
 pub fn some(text: &str) -> Result<&str, Refusal>
     ensures gives { GivesBy (λ x. x.now) result (some_text text.now) }
     ensures never_memory { IfErr result (λ e. e ≢ Refusal.Memory) }
@@ -165,7 +165,7 @@ pub fn some(text: &str) -> Result<&str, Refusal>
 ///
 /// # Errors
 ///
-/// `Unfit` where it is empty, `Memory` where memory runs out.
+/// `Unfit` if it is empty, `Memory` if memory runs out.
 pub fn text_of(alloc: Global, text: &str) -> Result<Text, Refusal>
     ensures { Gives result (some_text text.now) }
 {

@@ -22,7 +22,7 @@ pub trait Reads<T: Drop> {
         ensures { Gives result (reads text.now) };
 }
 
-/// The text before the first such character, and what stands behind it where there is one.
+/// The text before the first such character, and what follows it if there is one.
 ///
 /// # Conditions
 ///
@@ -45,7 +45,7 @@ pub fn first_part(text: &str, at: char) -> (&str, Option<&str>)
 ///
 /// # Errors
 ///
-/// `Unfit` where a word isn't of the form, `Memory` where memory runs out.
+/// `Unfit` if a word isn't of the form, `Memory` if memory runs out.
 pub fn list_of<T: Drop, R: Reads<T>>(
     alloc: Global,
     text: &str,

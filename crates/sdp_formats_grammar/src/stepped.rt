@@ -10,20 +10,20 @@ use std::alloc::Global;
 
 /// A step over a text: how a value at the beginning of a text is read.
 pub trait Stepped<T: Drop> {
-    /// What a text begins with, and what is left behind it.
+    /// What a text begins with, and what is left after it.
     ghost says: { List ℕ → T → List ℕ → Type 0 };
 
-    /// Reads what the text begins with, and returns the text behind it, which is shorter.
+    /// Reads what the text begins with, and returns the text after it, which is shorter.
     fn step(alloc: Global, text: &str) -> Result<(T, &str), Refusal>
         ensures steps { Steps says text.now result }
         ensures shortens { Shortens text.now result };
 }
 
-/// The values that the text begins with, as many as there are, and the text behind them.
+/// The values that the text begins with, as many as there are, and the text after them.
 ///
 /// # Errors
 ///
-/// `Memory` where memory runs out, and no other.
+/// `Memory` if memory runs out, and no other.
 pub fn many<T: Drop, S: Stepped<T>>(alloc: Global, text: &str) -> Result<(Listed<T>, &str), Refusal>
     ensures { Finds (Many S.says) text.now result }
 {
@@ -36,11 +36,11 @@ pub fn many<T: Drop, S: Stepped<T>>(alloc: Global, text: &str) -> Result<(Listed
     Ok((Listed::of(items), left))
 }
 
-/// The value that the text begins with, if there is one, and the text behind it.
+/// The value that the text begins with, if there is one, and the text after it.
 ///
 /// # Errors
 ///
-/// `Memory` where memory runs out, and no other.
+/// `Memory` if memory runs out, and no other.
 pub fn perhaps<T: Drop, S: Stepped<T>>(
     alloc: Global,
     text: &str,

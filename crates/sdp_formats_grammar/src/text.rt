@@ -54,18 +54,18 @@ impl Text {
     ///
     /// # Errors
     ///
-    /// `AllocError` where memory runs out.
+    /// `AllocError` if memory runs out.
     pub fn clone(&self, alloc: Global) -> Result<Text, AllocError>
         ensures { IfOk result (λ text. text ≡ self.now) }
     {
         Ok(Text::of(String::from_str(alloc, self.as_str())?))
     }
 
-    /// The same text again, where there is one.
+    /// The same text again, if there is one.
     ///
     /// # Errors
     ///
-    /// `AllocError` where memory runs out.
+    /// `AllocError` if memory runs out.
     pub fn if_any(alloc: Global, text: &Option<Text>) -> Result<Option<Text>, AllocError>
         ensures { IfOk result (λ copy. copy ≡ text.now) }
     {
@@ -79,7 +79,7 @@ impl Text {
     ///
     /// # Errors
     ///
-    /// `AllocError` where memory runs out.
+    /// `AllocError` if memory runs out.
     pub fn clone_all(alloc: Global, texts: &[Text]) -> Result<Listed<Text>, AllocError>
         ensures { IfOk result (λ copies. copies ≡ texts.now) }
     {

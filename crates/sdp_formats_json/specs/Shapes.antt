@@ -64,7 +64,7 @@ flag = record {
   fits = λ b. true;
 }
 
--- The first of a table with this name, where there is one.
+-- The first of a table with this name, if there is one.
 abbrev pub name_read : {A : Type 0} → (A → List ℕ) → List A → Field → Option (List ℕ) → Result A JsonError
 name_read name table field None = Err (Unfit field)
 name_read name table field (Some text) = or_refused (Unknown field) (with_name name table text)

@@ -10,7 +10,7 @@ use rtp_wire::{Frequency, Pt};
 use serde_json::Value;
 use std::alloc::{AllocError, Global};
 
-/// A type whose values stand in JSON.
+/// A type whose values are in JSON.
 pub trait Shaped: Copy + Drop {
     ghost shape: { Shape Self };
 

@@ -15,7 +15,7 @@ use std::alloc::{AllocError, Global};
 ///
 /// # Errors
 ///
-/// `AllocError` where memory runs out.
+/// `AllocError` if memory runs out.
 pub fn row_to_json(alloc: Global, row: &PayloadParams) -> Result<String, AllocError>
     ensures text { IfOk result (λ s. string_bytes s ≡ compact_text (row_data row.now)) }
     ensures reads { IfOk result (λ s. read (string_bytes s) ≡ Some (row_data row.now)) }
@@ -25,13 +25,13 @@ pub fn row_to_json(alloc: Global, row: &PayloadParams) -> Result<String, AllocEr
     value.to_string(alloc)
 }
 
-/// The row that a JSON text says: an object of its fields, in any order; those that may be missing are None where they
+/// The row that a JSON text says: an object of its fields, in any order; those that may be missing are None if they
 /// are missing or null, and members of other names are passed over. Of a member that comes twice the last counts.
 ///
 /// # Errors
 ///
 /// `NotJson` for a text that is no JSON, `NotObject` for one that is no object, an array too; then of the fields the
-/// first in their order that is `Missing`, `Unfit` or `Unknown`; `Memory` where memory runs out.
+/// first in their order that is `Missing`, `Unfit` or `Unknown`; `Memory` if memory runs out.
 #[tactic(auto, unfolding(crate::specs::Rows::row_of_text))]
 pub fn row_from_json(alloc: Global, text: &str) -> Result<PayloadParams, JsonError>
     ensures { Answers result (row_of_text text.now) }

@@ -1,4 +1,4 @@
--- What is read of a text, and of it with another behind it.
+-- What is read of a text, and of it with another after it.
 use Rattle.std.proofs.Common.{◌≡◌, ◌≢◌, ℕ, Bool, true, false, ◌&&◌, List, [], ◌∷◌, ◌++◌, Option, Some, None, IsTrue}
 use Rattle.std.proofs.Common.{refl, sym, ◌∙◌, ap, subst}
 use Rattle.std.specs.List.{list_all}
@@ -34,7 +34,7 @@ both_of : (a b : Bool) → IsTrue (a && b) → IsTrue a × IsTrue b
 both_of true b h = (refl, h)
 both_of false b h = absurd (not_both h)
 
--- where a line begins there is some text
+-- if a line begins there is some text
 some_first : (c : List ℕ) → c ≢ [] → first c ≡ None → ⊥
 some_first [] some e = some refl
 some_first (b ∷ c) some e = cc
@@ -60,7 +60,7 @@ has_attribute : (m : MediaLine) → IsTrue (is_consistent m) → m.attrs ≢ []
 has_attribute m h e = not_both (subst (λ attrs. IsTrue (is_consistent (record m { attrs = attrs }))) e h)
 
 module _ (more : List ℕ) where
-  -- a line that isn't there isn't there with the text behind it
+  -- a line that isn't there isn't there with the text after it
   still_stops : {A : Type 0} (F : List ℕ → A → Type 0) (t : List ℕ) → IsCut 10 t → IsEnded t
       → (t ≡ [] → Stops (LineOf F) more) → Stops (LineOf F) t → Stops (LineOf F) (t ++ more)
   still_stops F t (somewhere front rest whole lacks) ok last h = λ a r s.
@@ -114,7 +114,7 @@ module _ (more : List ℕ) where
       let rs = many repeat_line.Says h.0 h.2 r one.1 last h.3 in
       ((h.0 ++ more, one.0, h.2, rs.0), rs.1)
 
-  -- behind the line `t=` and its lines `r=` there is nothing where no attribute and no section follow
+  -- after the line `t=` and its lines `r=` there is nothing if no attribute and no section follow
   nothing_left : (t : List ℕ) (attrs : List SessionAttribute) (r : List ℕ)
       → (attrs ≡ [] → r ≡ [] → Stops (LineOf repeat_line.Says) more) → Begins (LineOf session_line.Says) t attrs r
       → t ≡ [] → Stops (LineOf repeat_line.Says) more
@@ -188,7 +188,7 @@ module _ (more : List ℕ) where
       let parts = sections one (m ∷ ms) r said.1 fine last b in
       (said.0, parts.0, parts.1)
 
-  -- no section begins where something is left unread, whatever stands behind it
+  -- no section begins where something is left unread, whatever follows it
   begun : IsExact media_line → (t : List ℕ) (head : MediaHead) (r : List ℕ) → LineOf head_line.Says t head r
       → (m : MediaLine) × (s : List ℕ) × SectionSays t m s
   unfolding SectionSays
@@ -228,7 +228,7 @@ module _ (more : List ℕ) where
   no_section exact [] ok last h = last refl
   no_section exact (b ∷ r) ok last h = still_unread exact (b ∷ r) (cut_of 10 (b ∷ r)) (λ e. cc) ok h
 
-  -- what is left behind the text begins with none of what would go on with it
+  -- what is left after the text begins with none of what would go on with it
   last_section : (t : List ℕ) (m : MediaLine) (ms : List MediaLine) (r : List ℕ) → Begins SectionSays t (m ∷ ms) r
       → Stops (LineOf media_line.Says) r
   unfolding SectionSays

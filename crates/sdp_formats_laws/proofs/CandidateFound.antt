@@ -176,7 +176,7 @@ related_words_of (Some t) x h = at (behind (codes "raddr ") t) refl h
           (one.2, one.3, one.4),
         )
 
--- the fields behind the kind, from the first on
+-- the fields after the kind, from the first on
 tcptype_words : (t : Option (List ℕ)) (x : Option TcpType × Option (List ℕ)) → tcptype_field t ≡ Some x
     → (w : Option (List ℕ)) × (t ≡ named_tail (codes "tcptype ") w x.1) × IfSome w IsOneWord
     × (maybe tcptype_word w ≡ Some x.0)

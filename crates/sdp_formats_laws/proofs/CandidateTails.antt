@@ -10,7 +10,7 @@ use Rattle.sdp_formats_laws.proofs.CandidatesLemmas.{behind_blank}
 use Rattle.sdp_formats_laws.specs.CandidateWords.{IsOneWord, Spelling, Spells, named_words}
 use Rattle.sdp_formats_laws.specs.CandidateWords.{related_words, words_of}
 
--- what stands behind the kind, from the last field on: a name and its word, where there is one
+-- what follows the kind, from the last field on: a name and its word, if there is one
 abbrev pub named_tail : List ℕ → Option (List ℕ) → Option (List ℕ) → Option (List ℕ)
 named_tail name None more = more
 named_tail name (Some w) more = Some (name ++ (w ++ behind_blank more))
@@ -38,7 +38,7 @@ abbrev pub tcptype_tail : Option (List ℕ) → Option (List ℕ) → Option (Li
 tcptype_tail tcptype generation network ufrag cost =
     named_tail (codes "tcptype ") tcptype (generation_tail generation network ufrag cost)
 
--- the words of a field, each behind a blank
+-- the words of a field, each after a blank
 pub blanked : List (List ℕ) → List ℕ
 blanked words = each_behind (codes " ") words
 
@@ -65,7 +65,7 @@ unfolding blanked
 last_shape name None = refl
 last_shape name (Some w) = ap (λ t. 32 ∷ t) (sym (append_assoc name (32 ∷ []) (w ++ [])))
 
--- which words of a candidate stand where it may have none
+-- which words of a candidate are where it may have none
 pub record AreWords (c : Candidate) (s : Spelling) : Type 0 where
   pub spells : Spells c s
   pub address : IfSome c.related (λ r. IsOneWord r.addr × Lacks 32 s.related_port

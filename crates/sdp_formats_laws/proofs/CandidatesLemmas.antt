@@ -35,7 +35,7 @@ use Rattle.sdp_formats_laws.specs.CandidateWords.{IsOneWord}
 use Rattle.sdp_formats_laws.specs.Printable.{IsWord, IsPrintableCandidate, IsPrintableRelated}
 use Rattle.sdp_formats_laws.specs.ValueTexts.{IsOfWords, IsRelatedOfWords}
 
--- what stands behind a blank, if anything does
+-- what follows a blank, if anything does
 abbrev pub behind_blank : Option (List ℕ) → List ℕ
 behind_blank None = []
 behind_blank (Some t) = 32 ∷ t
@@ -57,7 +57,7 @@ field_there name w more some h =
     ∙ ap field_word (halves-blank w more h)
     ∙ ap (λ o. o >>= λ x. Some (Some x, more)) (text_some w some)
 
--- what stands behind the kind, each part behind a blank
+-- what follows the kind, each part after a blank
 abbrev pub ufrag_tail : Option (List ℕ) → Option (List ℕ)
 ufrag_tail None = None
 ufrag_tail (Some w) = Some (codes "ufrag " ++ (w ++ behind_blank None))
@@ -97,7 +97,7 @@ parts_shape c =
     (tcp_shape c.tcptype (ufrag_tail c.ufrag))
     ∙ related_shape c.related (tcp_tail c.tcptype (ufrag_tail c.ufrag))
 
--- the fields behind the kind
+-- the fields after the kind
 related_there : (r : RelatedAddress) (more : Option (List ℕ)) → IsRelatedOfWords r
     → related_in (r.addr ++ 32 ∷ (codes "rport " ++ (decimal r.port ++ behind_blank more))) ≡ Some (r, more)
 unfolding related_in
@@ -186,7 +186,7 @@ kind_back PeerReflexive = (refl, lacks 32 (codes "prflx") refl)
 kind_back ServerReflexive = (refl, lacks 32 (codes "srflx") refl)
 kind_back Relayed = (refl, lacks 32 (codes "relay") refl)
 
--- what stands behind `candidate:`
+-- what follows `candidate:`
 abbrev pub place_text : Candidate → List ℕ → List ℕ
 place_text c tail = c.addr ++ 32 ∷ (decimal c.port ++ 32 ∷ (codes "typ " ++ (kind_text c.kind ++ tail)))
 
@@ -240,7 +240,7 @@ body_read c h =
     (then _ _ _ _ (ap (λ (x : List ℕ × Option (List ℕ)). candidate_fields x.1) kind
     ∙ fields_read c.related c.tcptype c.ufrag h.5 h.6) refl))))
 
--- the text of a candidate, behind its name
+-- the text of a candidate, after its name
 pub candidate_body : Candidate → List ℕ
 candidate_body c = body_text c (behind_blank (tail_of c))
 
@@ -257,7 +257,7 @@ pub candidate_spelled : (c : Candidate) → candidate_text c ≡ codes "candidat
 unfolding candidate_text candidate_body
 candidate_spelled c = ap (λ t. codes "candidate:" ++ body_text c t) (parts_shape c)
 
--- no end of a line stands in it
+-- no end of a line is in it
 abbrev pub all_above : List ℕ → Bool
 all_above [] = true
 all_above (x ∷ xs) = nat_lt 31 x && all_above xs

@@ -11,7 +11,7 @@ use Rattle.sdp_formats_laws.specs.EachOnce.{AreDistinct, IsEachOnce, IsFirstBefo
 use Rattle.sdp_formats_rounds.specs.Members.{IsIn}
 use Rattle.sdp_formats_laws.specs.Sources.{SourcesAreEachOnce}
 
--- one number's first place is before another's: not that of the other is first, but that of the one, or it is so behind
+-- one number's first place is before another's: not that of the other is first, but that of the one, or it is so after
 before_split : (x y n : ℕ) (ns : List ℕ)
     → IsFirstBefore x y (n ∷ ns) ↔ ((n ≡ y → ⊥) × ((n ≡ x) ⊎ IsFirstBefore x y ns))
 before_split x y n ns = ((λ h. forth h.0 h.1 h.2 h.3 h.4), λ h. back h.0 h.1)

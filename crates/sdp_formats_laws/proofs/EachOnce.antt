@@ -6,7 +6,7 @@ use Rattle.sdp_formats_laws.proofs.Decided.{Decided}
 use Rattle.sdp_formats_laws.specs.EachOnce.{AreDistinct, IsEachOnce, IsFirstBefore}
 use Rattle.sdp_formats_rounds.specs.Members.{IsIn}
 
--- members of lists behind one another
+-- members of lists after one another
 pub in_front : {A : Type 0} (x : A) (xs ys : List A) → IsIn x xs → IsIn x (xs ++ ys)
 in_front x [] ys h = absurd h
 in_front x (z ∷ zs) ys (inl e) = inl e
@@ -21,7 +21,7 @@ in_either x [] ys h = inr h
 in_either x (z ∷ zs) ys (inl e) = inl (inl e)
 in_either x (z ∷ zs) ys (inr h) = elim (in_either x zs ys h) [ inl k ↦ inl (inr k) | inr k ↦ inr k ]
 
--- which first place is before which, with more behind
+-- which first place is before which, with more after
 pub before_more : {A : Type 0} (x y : A) (xs more : List A) → IsFirstBefore x y xs → IsFirstBefore x y (xs ++ more)
 before_more x y xs more h =
     (h.0, h.1 ++ more, ap (λ l. l ++ more) h.2 ∙ append_assoc h.0 h.1 more, h.3, h.4)
@@ -29,7 +29,7 @@ before_more x y xs more h =
 pub whole : {A : Type 0} (x y : A) (xs : List A) → IsIn x xs → (IsIn y xs → ⊥) → IsFirstBefore x y xs
 whole x y xs h k = (xs, [], sym (append-nil xs), h, k)
 
--- a front of a list with one more behind is a front of the list, or all of it
+-- a front of a list with one more after is a front of the list, or all of it
 fronts : {A : Type 0} (x : A) (xs front back : List A) → xs ++ x ∷ [] ≡ front ++ back
     → ((rest : List A) × (xs ≡ front ++ rest)) ⊎ (front ≡ xs ++ x ∷ [])
 fronts x xs [] back e = inl (xs, refl)
@@ -50,7 +50,7 @@ before_one {A} x y z xs h = elim (fronts z xs h.0 h.1 h.2) [
   | inr r ↦ inr (subst (λ (l : List A). IsIn x l × (IsIn y l → ⊥)) r (h.3, h.4))
 ]
 
--- one more behind members that are each once
+-- one more after members that are each once
 pub distinct_more : {A : Type 0} (x : A) (xs : List A) → AreDistinct xs → (IsIn x xs → ⊥) → AreDistinct (xs ++ x ∷ [])
 distinct_more x [] h k = ((λ e. e), tt)
 distinct_more x (z ∷ zs) h k = (
@@ -113,7 +113,7 @@ more {A} x all once h k =
       );
     }
 
--- one more is put behind the others, if it isn't among them yet
+-- one more is put after the others, if it isn't among them yet
 abbrev pub Adds : {A : Type 0} → List A → A → List A → Type 0
 Adds seen x now = (IsIn x seen × (now ≡ seen)) ⊎ ((IsIn x seen → ⊥) × (now ≡ seen ++ x ∷ []))
 
@@ -218,7 +218,7 @@ one_list all once other h k = same_list once other h.distinct k.distinct
     (λ u i. (k.members u).1 ((h.members u).0 i)) (λ u i. (h.members u).1 ((k.members u).0 i))
     (λ u v _ _ b. (k.order u v).1 ((h.order u v).0 b))
 
--- where equality can be decided, there is such a list, and it is what the members are put together to
+-- if equality can be decided, there is such a list, and it is what the members are put together to
 pub in_decided : {A : Type 0} → Decided A → (x : A) (xs : List A) → IsIn x xs ⊎ (IsIn x xs → ⊥)
 in_decided same x [] = inr (λ h. h)
 in_decided same x (y ∷ ys) = elim (same y x) [

@@ -133,7 +133,7 @@ keyed_field p h = record {
   value_field = (value_is p h).3;
 }
 
--- one parameter of a line, where the last of each key alone counts or each in turn: `profile-id` only in the latter
+-- one parameter of a line, if the last of each key alone counts or each in turn: `profile-id` only in the latter
 abbrev pub IsPart : Bool → FormatParam → Type 0
 IsPart last (param.TelephoneEvents v) = v < 2 ^ 8
 IsPart last (param.ProfileId v) = (v < 2 ^ 32) × (last ≡ false)

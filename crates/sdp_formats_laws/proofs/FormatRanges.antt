@@ -110,7 +110,7 @@ range_in (Some digits) = by_digits (list_all is_ascii_digit digits)
     by_digits true = number_in (2 ^ 8) 10 digits
     by_digits false = tt
 
--- where a tier or level is given, there is no `profile-id` beside it
+-- if a tier or level is given, there is no `profile-id` beside it
 abbrev pub Apart : Bool → FormatParams → Type 0
 Apart true f = (f.profile_id ≡ None) × AtMostOne f.h265_profile_tier_level f.h266_profile_tier_level
 Apart false f = (f.h265_profile_tier_level ≡ None) × (f.h266_profile_tier_level ≡ None)

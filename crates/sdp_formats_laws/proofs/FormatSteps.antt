@@ -17,7 +17,7 @@ use Rattle.sdp_formats_laws.proofs.FormatKeys.{key_same}
 use Rattle.sdp_formats_laws.specs.FormatParts.{range_in, range_of_pieces, value_in, value_of_pieces}
 use Rattle.sdp_formats_laws.specs.Formats.{difference_value}
 
--- a number or a flag behind values of its key
+-- a number or a flag after values of its key
 abbrev pub numbers : Bool → (List ℕ → Option ℕ) → Option ℕ → List (List ℕ) → Option ℕ
 numbers last read before [] = before
 numbers last read before (v ∷ vs) = numbers last read (replaced last before (read v)) vs
@@ -26,7 +26,7 @@ abbrev pub flags : Option Bool → List (List ℕ) → Option Bool
 flags before [] = before
 flags before (v ∷ vs) = flags (is_on v) vs
 
--- a format behind the values of each key and some ranges
+-- a format after the values of each key and some ranges
 abbrev pub behind : Bool → (Key → List (List ℕ)) → List ℕ → FormatParams → FormatParams
 behind last values ranges f = record {
   min_p_time = numbers last byte_value f.min_p_time (values key.MinPTime);

@@ -189,7 +189,7 @@ module _ (line : List ℕ) where
   abbrev means_266 : Option Level266
   means_266 = given_266 (last_value key.ProfileId line) (last_value key.TierFlag line) (last_value key.LevelId line)
 
-  -- what the parts are put behind
+  -- what the parts are put after
   abbrev base : Bool → FormatParams
   base b = if b then with_level means_265 means_266 else no_format
 

@@ -21,7 +21,7 @@ next : {V : Type 0} (b : Option V → FormatParams) (c : V → FormatParam)
 next b c h None rest = refl
 next b c h (Some v) rest = ap (λ f. fold with_codec_param f rest) (h v)
 
--- the parameters behind the first n
+-- the parameters after the first n
 abbrev left_of : FormatParams → ℕ → List FormatParam
 left_of f n = flat_map option_to_list (drop n (each_param f))
 

@@ -31,7 +31,7 @@ pub made_of : {A B : Type 0} (Q : A → Type 0) (P : B → Type 0) (h : A → B)
     → ((a : A) → Q a → P (h a)) → Gives P (made h f)
 made_of Q P h f g x = record { each = λ t b s. subst P (sym s.2) (x s.0 (g.each t s.0 s.1)) }
 
--- what stands behind the cut
+-- what follows the cut
 pub behind_gives : {A B : Type 0} (Q : B → Type 0) (c : ℕ) (f : Form A) (g : Form B) → Gives Q g
     → Gives (λ (x : A × B). Q x.1) (cut c f g)
 behind_gives Q c f g x = record { each = λ t ab s. x.each s.1 ab.1 s.5 }

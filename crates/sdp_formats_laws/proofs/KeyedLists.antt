@@ -78,7 +78,7 @@ pub pairs_read : PairsComeBack → (q : Pair) (qs : List Pair) → ArePairs (q �
     → parameters.reads (pairs_text (q ∷ qs)) ≡ Some (params_of (q ∷ qs))
 pairs_read back q qs h = first_fits _ _ _ (ap (option_map params_of) (back q qs h))
 
--- they stand as they are read
+-- they are as they are read
 pub spelled_same : (p : FormatParam) → IsKeyed p → spelled_as p ≡ p
 spelled_same (param.H265ProfileTierLevel v) h = absurd h
 spelled_same (param.H266ProfileTierLevel v) h = absurd h

@@ -1,4 +1,4 @@
--- Parameters put into a format one behind the other: the last of each kind stays.
+-- Parameters put into a format one after the other: the last of each kind stays.
 use Rattle.std.proofs.Common.{◌≡◌, ◌⊎◌, inl, inr, ◌↔◌, List, [], ◌∷◌, Option, Some, None, filter_map, refl, sym}
 use Rattle.std.proofs.Common.{◌∙◌, ap}
 use Rattle.std.specs.Prelude.{fold}

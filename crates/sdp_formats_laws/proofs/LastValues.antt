@@ -39,7 +39,7 @@ last_split key value p ps h = at h.0 h.3
         )
     at (q ∷ front) e = inr (front, h.1, h.2, cc, h.4, h.5, h.6)
 
--- where there is a pair of the key, there is a last one
+-- if there is a pair of the key, there is a last one
 pub last_there : (key : List ℕ) (ps : List Pair) → IsIn key (keys_of ps) → (value : List ℕ) × IsLastValue key value ps
 last_there key [] i = absurd i
 last_there key (p ∷ ps) i = elim (in_decided texts key (keys_of ps)) [

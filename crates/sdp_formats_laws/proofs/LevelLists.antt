@@ -89,7 +89,7 @@ level_first front back l id tier level is f b =
     ap (λ t. filter is_level t ++ filter is_other t) (spelled_all front back l is.spelled f b)
     ∙ (λ i. one_level front back l is.is_one f b i ++ the_others front back l is.is_one f b i)
 
--- its pairs can stand in a text
+-- its pairs can be in a text
 are_both : (ps qs : List Pair) → ArePairs ps → ArePairs qs → ArePairs (ps ++ qs)
 are_both [] qs h k = k
 are_both (p ∷ ps) qs h k = (h.0, are_both ps qs h.1 k)

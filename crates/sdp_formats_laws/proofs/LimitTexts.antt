@@ -1,4 +1,4 @@
--- Limits of a stream are read exactly where a text says them.
+-- Limits of a stream are read if and only if a text says them.
 use Rattle.std.proofs.Common.{◌≡◌, ◌≢◌, ◌⊎◌, ℕ, cond, List, [], ◌∷◌, ◌++◌, Option, Some, None}
 use Rattle.std.proofs.Common.{is_some, codes, refl, sym, ◌∙◌, ap, subst, inl, inr, ⊎_elim}
 use Rattle.std.specs.Option.{option_map}
@@ -19,7 +19,7 @@ use Rattle.sdp_formats_laws.proofs.RestrictionTexts.{restrictions_exact}
 use Rattle.sdp_formats_laws.proofs.ValueTexts.{some_of}
 use Rattle.sdp_formats_laws.specs.RestrictionTexts.{LimitsAreExact, LimitsSay, RestrictionsSay, TypeSays}
 
--- behind a payload type
+-- after a payload type
 abbrev pub Later : List ℕ → List ℕ → List Pair → Type 0
 Later rest types ps = (word : List ℕ) × (pt : ℕ) × (payload_type.reads word ≡ Some pt) × Lacks 32 word
     × (types ≡ pt ∷ []) × (((rest ≡ word) × (ps ≡ []))

@@ -1,4 +1,4 @@
--- Texts with other ends of lines, and with more behind them, are read the same.
+-- Texts with other ends of lines, and with more after them, are read the same.
 use Rattle.std.proofs.Common.{◌≡◌, ℕ, List, [], ◌∷◌, ◌++◌, Option, Some, None}
 use Rattle.std.proofs.Common.{refl, sym, ◌∙◌, ap, subst, inl, inr, ⊎_elim, append_assoc}
 use Rattle.sdp_formats_grammar.specs.Cuts.{IsCut, somewhere, nowhere, cut_of, other_byte, split_first-at}

@@ -69,7 +69,7 @@ module _ {M : Type 0} (type_of : M → ℕ) (has_own : ℕ → Bool) (own : ℕ 
     not_mapped_in pt (t ∷ ts) n = own_append t pt ts
         ∙ or_from _ _ (own_other t pt (λ e. n (inl e))) (not_mapped_in pt ts (λ i. n (inr i)))
 
-    -- what one type of the list adds to the lines and the types behind them
+    -- what one type of the list adds to the lines and the types after them
     module _ (lines : List M) where
       abbrev alone : ℕ → Bool
       alone pt = not (has lines pt) && has_own pt

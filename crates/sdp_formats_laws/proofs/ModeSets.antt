@@ -49,7 +49,7 @@ taken : (x modes : ℕ) (b : Bool) → nat_le x 8 ≡ b → x ≤ 8
 taken x modes true e h = refl
 taken x modes false e h = absurd (grind (arith, nat_tests))
 
--- one mode, and those behind it
+-- one mode, and those after it
 pieces_last : (d : ℕ) → d ≢ 44 → parts 44 (d ∷ []) ≡ (d ∷ []) ∷ []
 pieces_last d h = other_byte d 44 _ _ h
 

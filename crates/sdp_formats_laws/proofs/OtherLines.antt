@@ -15,7 +15,7 @@ use Rattle.sdp_formats_data.specs.declared.session.SessionAttribute.TheVariants 
 use Rattle.sdp_formats_laws.proofs.Printed.{text_some}
 use Rattle.sdp_formats_laws.specs.OtherLines.{OtherLinesStayInSections, OtherLinesStayInSessions}
 
--- a form whose name doesn't stand there
+-- a form whose name doesn't are there
 not_there : {A : Type 0} (name : List ℕ) (read : List ℕ → Option A) (t : List ℕ) → ((rest : List ℕ) → t ≢ name ++ rest)
     → (behind name t >>= read) ≡ None
 not_there name read t h = ap (λ o. o >>= read) (none_if (behind name t) (λ rest e. h rest (behind-sound name t rest e)))

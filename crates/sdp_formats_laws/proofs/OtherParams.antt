@@ -181,7 +181,7 @@ pub bare_list_back : IsExact pair_list → (n : ℕ) → n < 2 ^ 8 → IsReadBac
 unfolding param_text
 bare_list_back exact n small = text_back (param.BarePtList n) [] (list_on_line n small) (list_back exact n small)
 
--- nothing behind the blank
+-- nothing after the blank
 nothing_read : IsExact pair_list → parameters.reads [] ≡ Some (param.Unknown ∷ [])
 nothing_read exact = or_other (key_values.reads []) ((either slash_list (either range anything)).reads [])
     (ap (option_map params_of) (no_pairs exact [] tt))

@@ -144,7 +144,7 @@ ssrc_group semantics s ss h below = at_text attribute_line _ _ _
     (cut_reads 32 any_text (separated 32 (told ssrc_number)) semantics (numbers_text (codes " ") (s ∷ ss)) semantics
     (s ∷ ss) h.1 (text_some semantics h.0.0) (numbers_read s ss below)))))
 
--- the rate and the channels, where they are told
+-- the rate and the channels, if they are told
 abbrev pub rates_text : ℕ → Option ℕ → List ℕ
 rates_text rate channels = decimal rate ++ maybe_text (codes "/") (option_map decimal channels)
 

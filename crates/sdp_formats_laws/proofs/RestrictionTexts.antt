@@ -1,4 +1,4 @@
--- Restrictions are read exactly where a text says them.
+-- Restrictions are read if and only if a text says them.
 use Rattle.std.proofs.Common.{◌≡◌, ◌≢◌, ◌==◌, ◌&&◌, ℕ, Bool, true, false, cond, List, [], ◌∷◌, ◌++◌, length}
 use Rattle.std.proofs.Common.{Option, Some, None, refl, sym, ◌∙◌, ap, subst, inl, inr, ⊎_elim, append_assoc}
 use Rattle.std.proofs.Common.{append-nil, arith}
@@ -59,7 +59,7 @@ word_sound t w h =
       subst (λ x. list_all is_word_byte x ≡ true) two.1 two.0,
     )
 
--- one restriction and what stands behind it
+-- one restriction and what follows it
 record Step (t : List ℕ) (p : Pair) (r : List ℕ) : Type 0 where
   front : List ℕ
   after : List ℕ

@@ -46,7 +46,7 @@ pub way_above : (d : RidDirection) → all_above (way_text d) ≡ true
 way_above Send = refl
 way_above Recv = refl
 
--- what stands behind the direction
+-- what follows the direction
 abbrev pub limits_tail : List ℕ → List Pair → Option (List ℕ)
 limits_tail [] [] = None
 limits_tail [] (p ∷ ps) = Some (pairs_text (p ∷ ps))

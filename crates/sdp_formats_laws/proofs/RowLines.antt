@@ -41,7 +41,7 @@ both_each : {A : Type 0} (P : A → Type 0) (xs ys : List A) → IsEach P xs →
 both_each P [] ys h k = k
 both_each P (x ∷ xs) ys h k = (h.0, both_each P xs ys h.1 k)
 
--- words that stand on a line
+-- words that are on a line
 abbrev pub is_word : List ℕ → Bool
 is_word [] = true
 is_word (b ∷ t) = nat_lt 32 b && (not (b == 47) && is_word t)

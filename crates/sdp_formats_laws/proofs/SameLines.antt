@@ -171,7 +171,7 @@ line_back t c r (nowhere lacks) h =
     absurd (lacking 10 (c ++ 13 ∷ []) r t lacks (sym (two_ends c r) ∙ sym e ∙ same)))
     (λ (e : (returned t ≡ c) × (r ≡ [])). ([], e.1, (inr (inr (sym same ∙ e.0, refl)), h.1, h.2, h.3))) o) h.0
 
--- whatever stands in the text
+-- whatever is in the text
 abbrev pub Anything : List ℕ → Type 0
 Anything t = Unit {0}
 

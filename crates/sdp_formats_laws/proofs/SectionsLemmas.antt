@@ -43,11 +43,11 @@ use Rattle.sdp_formats_rounds.specs.Members.{IsEach}
 use Rattle.sdp_formats_laws.specs.PrintableTexts.{IsPrintableBandwidth, IsPrintableSection, AreFormats}
 use Rattle.sdp_formats_laws.specs.PrintableTexts.{LineComesBack, HasLinesThatComeBack}
 
--- what may stand behind a section: another, or nothing
+-- what may follow a section: another, or nothing
 abbrev pub IsTail : List ℕ → Type 0
 IsTail t = (c : ℕ) → (109 ≡ c → ⊥) → first t ≡ Some c → ⊥
 
--- a line of a bandwidth doesn't begin where another letter stands
+-- a line of a bandwidth doesn't begin if another letter is
 pub no_bandwidth : (t : List ℕ) → (first t ≡ Some 98 → ⊥) → Stops (LineOf bandwidth_line.Says) t
 no_bandwidth t other = stops _ t (λ content b s same. other (sym same ∙ ap first s.1.1))
 
@@ -190,7 +190,7 @@ sections_printed back exact [] h = tt
 sections_printed back exact (m ∷ ms) h =
     ((h.0.0, h.0.1, each_printed back exact m.attrs h.0.2), sections_printed back exact ms h.1)
 
--- what stands behind a bandwidth is an attribute or another section, or nothing
+-- what follows a bandwidth is an attribute or another section, or nothing
 not_98 : (attrs : List MediaAttribute) (t rest : List ℕ) → Begins (LineOf attribute_line.Says) t attrs rest
     → IsTail rest
     → first t ≡ Some 98 → ⊥

@@ -98,7 +98,7 @@ ends_with (b ∷ front) w some h = longer b (front ++ w) (some_behind front w so
     some_behind [] w some = some
     some_behind (x ∷ xs) w some = λ e. cc
 
--- what stands before the last of some words, and the last
+-- what is before the last of some words, and the last
 abbrev pub EndsInWord : List ℕ → Type 0
 EndsInWord t = (front w : List ℕ) × (t ≡ front ++ w) × (w ≢ []) × Lacks 32 w
 

@@ -28,7 +28,7 @@ key_in k v [] h = absurd h
 key_in k v (e ∷ es) (inl s) = inl (ap (λ (x : List ℕ × List ℕ). x.0) s)
 key_in k v (e ∷ es) (inr h) = inr (key_in k v es h)
 
--- an entry is put in the place of its key, or behind the others
+-- an entry is put in the place of its key, or after the others
 in_place : (e : List ℕ × List ℕ) (es : Entries) (k v : List ℕ) → k ≡ e.0 → put (e ∷ es) k v ≡ (e.0, v) ∷ es
 in_place e es k v s = ap (λ b. if b then ((e.0, v) ∷ es) else (e ∷ put es k v)) ((bytes_eq-Decides k e.0).1 s)
 
@@ -117,7 +117,7 @@ put_of es k v key value (inl both) =
     subst (λ (x : List ℕ × List ℕ). IsIn x (put es k v)) (λ i. (both.0 i, both.1 i)) (put_has es k v)
 put_of es k v key value (inr other) = put_keeps es k v key value other.0 other.1
 
--- the entries of pairs behind others
+-- the entries of pairs after others
 abbrev IsBehind : Entries → List Pair → List ℕ → List ℕ → Type 0
 IsBehind es ps key value =
     IsLastValue key value ps ⊎ ((IsIn key (keys_of ps) → ⊥) × IsIn (key, value) es)

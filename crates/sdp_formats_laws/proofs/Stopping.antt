@@ -34,7 +34,7 @@ pub first_of : {A : Type 0} (c : ℕ) (name : List ℕ) (f : Form A) (t : List �
 first_of c name f t [] r h = inr h
 first_of c name f t (a ∷ as') r h = inl (sym (line_first t h.1.0 h.0 h.1.1) ∙ ap first h.1.2.1)
 
--- printed values, one behind the other
+-- printed values, one after the other
 begins_behind : {A B : Type 0} (S : List ℕ → B → List ℕ → Type 0) (text : A → List ℕ) (value : A → B)
     (P : A → Type 0) → ((x : A) (rest : List ℕ) → P x → S (text x ++ rest) (value x) rest) → (xs : List A)
     (rest : List ℕ) → IsEach P xs → Begins S (each_behind [] (map text xs) ++ rest) (map value xs) rest

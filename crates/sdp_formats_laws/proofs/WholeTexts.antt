@@ -76,7 +76,7 @@ session_shape : (number bw attrs rest : List ℕ)
     ++ ((codes "s=-" ++ line_end) ++ (bw ++ ((codes "t=0 0" ++ line_end) ++ (attrs ++ rest)))))
 session_shape number bw attrs rest = simp append_assoc
 
--- a letter that comes neither first among attributes nor behind them
+-- a letter that comes neither first among attributes nor after them
 not_first : (c : ℕ) (attrs : List SessionAttribute) (t rest : List ℕ) → (97 ≡ c → ⊥) → (109 ≡ c → ⊥)
     → Begins (LineOf attribute_line.Says) t attrs rest → IsTail rest → first t ≡ Some c → ⊥
 not_first c attrs t rest a m begins tail e = ⊎_elim (λ (x : first t ≡ Some 97). apart 97 c a (sym x ∙ e))
@@ -142,7 +142,7 @@ pub session_alone : IsExact attribute_line → (s : Session) → IsPrintableSess
 session_alone exact s h =
     subst (λ t. SessionSays t s []) (append-nil (session_text s)) (session_says exact s [] h nothing_left)
 
--- sections, one behind the other
+-- sections, one after the other
 no_section : Stops SectionSays []
 unfolding SectionSays
 no_section = λ m r s. other_start 109 (61 ∷ []) media_line [] (λ e. cc) s.0 s.1 s.2
@@ -152,7 +152,7 @@ section_tail : (m : MediaLine) (rest : List ℕ) → IsTail (section_text m ++ r
 unfolding section_text
 section_tail m rest = λ c other e. other (cc)
 
--- sections, one behind the other
+-- sections, one after the other
 sections_begin : (ms : List MediaLine) → IsEach HasLinesThatComeBack ms
     → Begins SectionSays (each_behind [] (map section_text ms)) (map section_as_read ms) []
     × IsTail (each_behind [] (map section_text ms))

@@ -85,7 +85,7 @@ ended (session.Candidate value) = ended_named (codes "a=") (candidate_text value
 ended session.EndOfCandidates = refl
 ended (session.Unused value) = ended_named (codes "a=") value
 
--- so it is read as it is alone, whatever stands behind it
+-- so it is read as it is alone, whatever follows it
 writable_reads : (a : SessionAttribute) → IsWritableAttribute a → (rest : List ℕ)
     → (b : SessionAttribute) × LineOf attribute_line.Says (attribute_text a ++ rest) b rest × ComesBack a b
 unfolding IsWritableAttribute

@@ -65,7 +65,7 @@ pub record IsName (t : List ℕ) : Type 0 where
   pub semicolon : Lacks 59 t
   pub tilde : Lacks 126 t
 
--- Restrictions that can stand on a line, the first of which doesn't begin with the letter p.
+-- Restrictions that can be on a line, the first of which doesn't begin with the letter p.
 abbrev pub AreOnLine : List Pair → Type 0
 AreOnLine [] = Unit {0}
 AreOnLine (p ∷ ps) = (IsText p.key × IsText p.value) × AreOnLine ps

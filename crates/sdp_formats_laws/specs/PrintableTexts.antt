@@ -19,7 +19,7 @@ use Rattle.sdp_formats_rounds.specs.Members.{IsEach}
 use Rattle.sdp_formats_laws.specs.Printable.{IsText, IsWord, IsPrintable, AreBelow}
 use Rattle.sdp_formats_laws.specs.PrintableSession.{IsPrintable as IsPrintableInSession}
 
--- A bandwidth, if there is one, of texts that can stand where they are printed.
+-- A bandwidth, if there is one, of texts that can be where they are printed.
 abbrev pub IsPrintableBandwidth : Option Bandwidth → Type 0
 IsPrintableBandwidth None = Unit {0}
 IsPrintableBandwidth (Some b) = IsText b.typ × Lacks 58 b.typ × IsText b.val
@@ -46,7 +46,7 @@ HasLinesThatComeBack m = AreFormats m.typ m.pts × IsPrintableBandwidth m.bw × 
 abbrev pub IsPrintableSession : Session → Type 0
 IsPrintableSession s = (s.id < 2 ^ 64) × IsPrintableBandwidth s.bw × IsEach IsPrintableInSession s.attrs
 
--- A session and sections without a fault whose texts can stand where they are printed.
+-- A session and sections without a fault whose texts can be where they are printed.
 abbrev pub IsPrintableText : Sdp → Type 0
 IsPrintableText sdp = IsPrintableSession sdp.session × IsEach IsPrintableSection sdp.media_lines
     × IsTrue (list_all is_consistent sdp.media_lines)

@@ -4,10 +4,10 @@ ghost use Rattle.sdp_formats_laws.specs.FormatParts.{LastNumbersAreLast, LastTex
 ghost use Rattle.sdp_formats_laws.specs.FormatParts.{RangesStandAlone, ValuesAreOfKeys};
 ghost use Rattle.sdp_formats_laws.specs.Formats.{FormatsAreOfLines};
 
-/// What the parts of a line give, which stand between semicolons (RFC 8866 6.15): a value of a key where the part is
+/// What the parts of a line give, which are between semicolons (RFC 8866 6.15): a value of a key if the part is
 /// the key's name, in any ASCII case (RFC 4855 3), up to its first equals sign, and then the value, up to the next one
-/// or to its end, blanks round both dropped; a range of telephone events where the part has no equals sign and is one
-/// (RFC 4733 2.4.1). The last that is given is what a part gives behind which no part gives any.
+/// or to its end, blanks round both dropped; a range of telephone events if the part has no equals sign and is one
+/// (RFC 4733 2.4.1). The last that is given is what a part gives after which no part gives any.
 pub fn format_parts_law()
     ensures pieces { PiecesAreJoined }
     ensures values { ValuesAreOfKeys }

@@ -25,7 +25,7 @@ use crate::printed_parameters::parameter_lists_law;
 use sdp_formats_grammar::Lined;
 use sdp_formats_reader::{MediaAttributeLine, SessionAttributeLine, printed_pairs_law};
 
-/// The printed line of a printable attribute is read as that attribute, whatever stands behind it.
+/// The printed line of a printable attribute is read as that attribute, whatever follows it.
 ///
 /// Of a line `a=fmtp` a profile, tier and level is read in front of the other parameters, a range of telephone
 /// events as a range, and a type of redundant audio as a list of types: `as_read`. It comes back wherever its list of
@@ -42,7 +42,7 @@ pub fn printed_lines_law()
     parameter_lists_law();
 }
 
-/// The printed line of a printable attribute of a session is read as that attribute, whatever stands behind it, and
+/// The printed line of a printable attribute of a session is read as that attribute, whatever follows it, and
 /// `a=extmap-allow-mixed` as a line of no known kind.
 pub fn printed_session_lines_law()
     ensures printable { (a : SessionAttribute) (rest : List ℕ) → IsPrintableInSession a
@@ -53,16 +53,16 @@ pub fn printed_session_lines_law()
     SessionAttributeLine::exact_law();
 }
 
-/// A text is read as a candidate exactly where it is words for it, in their order, with a blank between each two
-/// (RFC 8839 5.1): foundation, component, protocol, priority, address, port, `typ` and kind; then, where they are
+/// A text is read as a candidate if and only if it is words for it, in their order, with a blank between each two
+/// (RFC 8839 5.1): foundation, component, protocol, priority, address, port, `typ` and kind; then, if they are
 /// given, `raddr` and `rport`, `tcptype`, `generation`, `network-id`, `ufrag` and `network-cost`, each with its word.
 pub fn candidate_words_law()
     ensures { CandidatesAreTheirWords }
 {}
 
-/// A text is read as the restrictions of `a=rid` exactly where it says them (RFC 8851 4): KEY=VALUE, blanks before a
-/// key alone, with `;` between each two and none at the end. What stands behind the direction is such restrictions,
-/// or a payload type and maybe restrictions behind a blank.
+/// A text is read as the restrictions of `a=rid` if and only if it says them (RFC 8851 4): KEY=VALUE, blanks before a
+/// key alone, with `;` between each two and none at the end. What follows the direction is such restrictions,
+/// or a payload type and maybe restrictions after a blank.
 pub fn restrictions_law()
     ensures restrictions { RestrictionsAreExact }
     ensures limits { LimitsAreExact }
@@ -76,7 +76,7 @@ pub fn names_law()
 {}
 
 /// A text that begins with no known name, and is no known word, is read as an attribute of no known kind: so it is one
-/// that is printable where it can stand on a line.
+/// that is printable if it can be on a line.
 pub fn other_lines_law()
     ensures section { OtherLinesStayInSections }
     ensures session { OtherLinesStayInSessions }

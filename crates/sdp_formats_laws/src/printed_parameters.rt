@@ -40,7 +40,7 @@ pub fn links_law()
 }
 
 /// A format whose numbers are of their widths, with one profile, tier and level at most, is read of the text that it is
-/// printed as (RFC 8866 6.15), and no other format is: so a row with such a format is plain exactly where its types,
+/// printed as (RFC 8866 6.15), and no other format is: so a row with such a format is plain if and only if its types,
 /// its codec, its feedback and the rest are.
 pub fn formats_law()
     ensures come_back { FormatsComeBack }
@@ -51,7 +51,7 @@ pub fn formats_law()
     h266_tables_law();
 }
 
-/// The constants `FALLBACK`, which stand where a session text says nothing: the numbers 1, 0 and 93 of H.265 (RFC 7798
+/// The constants `FALLBACK`, which are where a session text says nothing: the numbers 1, 0 and 93 of H.265 (RFC 7798
 /// 7.1), and 1, 0 and 51 of H.266 (RFC 9328 7.2).
 pub fn fallbacks_law() -> (H265ProfileTierLevel, H266ProfileTierLevel)
     ensures h265 { result.0 ≡ h265_fallback }

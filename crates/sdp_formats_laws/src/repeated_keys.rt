@@ -1,4 +1,4 @@
-//! Format parameters of several keys, where each key counts once.
+//! Format parameters of several keys, if each key counts once.
 
 ghost use Rattle.sdp_formats_laws.specs.RepeatedKeys.{EntriesHaveLast, LevelNamesAreThree, OthersAreInOrder};
 ghost use Rattle.sdp_formats_laws.specs.RepeatedKeys.{PairsAreSettled, ValuesAreLast};
@@ -23,7 +23,7 @@ pub fn entry_values_law()
     settled_pairs_law();
 }
 
-/// The parameters behind a profile, tier and level are those of the other entries, in their order: of all but
+/// The parameters after a profile, tier and level are those of the other entries, in their order: of all but
 /// `profile-id`, `tier-flag` and `level-id` (RFC 7798 7.1, RFC 9328 7.2).
 pub fn other_parameters_law()
     ensures others { OthersAreInOrder }

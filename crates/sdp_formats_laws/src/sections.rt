@@ -13,7 +13,7 @@ pub fn section_formats_law()
 {}
 
 /// The type of retransmissions or of redundant audio of a payload type is that of the last line `a=fmtp` whose type is
-/// mapped so and that names the payload type (RFC 4588 8.6, RFC 2198 5); none where there is no such line.
+/// mapped so and that names the payload type (RFC 4588 8.6, RFC 2198 5); none if there is no such line.
 pub fn section_links_law()
     ensures { LastLinksCount }
 {}

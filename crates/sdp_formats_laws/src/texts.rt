@@ -19,7 +19,7 @@ use crate::printed_parameters::parameter_lists_law;
 use sdp_formats_grammar::Lined;
 use sdp_formats_reader::{MediaAttributeLine, SessionAttributeLine, printed_pairs_law};
 
-/// The printed text of a session is read whole as that session, where its texts can stand where they are printed and no
+/// The printed text of a session is read whole as that session, if its texts can be where they are printed and no
 /// section has a fault; of lines `a=fmtp` as `printed_lines_law` says. So is a session without sections, and any text
 /// whose sections have lines each of which is read as it is printed.
 pub fn printed_texts_law()

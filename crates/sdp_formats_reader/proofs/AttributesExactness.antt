@@ -1,4 +1,4 @@
--- The kinds are read exactly where they say a value.
+-- The kinds are read if and only if they say a value.
 use Rattle.std.proofs.Common.{ℕ, ◌^◌, List, [], ◌∷◌, ◌++◌, codes, map}
 use Rattle.sdp_formats_grammar.specs.Form.{Form, IsExact, some_text, any_text, number}
 use Rattle.sdp_formats_grammar.specs.Kinds.{Kind, Named, OneOf, kind_form, made_kind, first_of}

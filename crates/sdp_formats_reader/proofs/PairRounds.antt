@@ -81,7 +81,7 @@ pub pairs-are : (t : List ℕ) (ps : List Pair) (r : List ℕ) → Many (At pair
 unfolding pairs_of
 pairs-are t ps r h = ap whole (run-complete pair_at pair-shorter (length t) t ps r (omega arith) h.0 h.1)
 
--- the list is read exactly where it says pairs
+-- the list is read if and only if it says pairs
 from_at : (t : List ℕ) (ps : List Pair) (r : List ℕ) → Begins (At pair_at) t ps r → Begins PairSays t ps r
 from_at t [] r h = h
 from_at t (p ∷ ps) r h = (h.0, pair-sound t p h.0 h.1, from_at h.0 ps r h.2)

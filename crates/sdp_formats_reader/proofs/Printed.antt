@@ -17,7 +17,7 @@ use Rattle.sdp_formats_values.specs.declared.Pair.{Pair}
 use Rattle.sdp_formats_reader.proofs.AttributesEnds.{not_equal}
 use Rattle.sdp_formats_reader.proofs.PairRounds.{pairs-exact, restrictions-read}
 
--- a pair and what stands behind it
+-- a pair and what follows it
 said : (p : Pair) (after rest : List ℕ) → IsPair p → (after ≡ 59 ∷ rest) → PairSays (pair_text p ++ after) p rest
 said p after rest h e = (
   [],
@@ -89,7 +89,7 @@ begin_at : (p : Pair) (ps : List Pair) → ArePairs (p ∷ ps) → Begins (At re
 begin_at p [] h = ([], restricted_last p h.0, refl)
 begin_at p (q ∷ qs) h = (pairs_text (q ∷ qs), restricted p (pairs_text (q ∷ qs)) h.0, begin_at q qs h.1)
 
--- no restriction stands in an empty text
+-- no restriction is in an empty text
 nothing : Stops (At restriction_at) []
 unfolding restriction_at
 nothing = λ p r h. cc

@@ -1,4 +1,4 @@
--- The kinds are read exactly where they say a value.
+-- The kinds are read if and only if they say a value.
 use Rattle.std.proofs.Common.{ℕ, List}
 use Rattle.sdp_formats_grammar.specs.Form.{Form, IsExact}
 use Rattle.sdp_formats_grammar.specs.Exact.{told-exact, made-exact, cut-exact, cut_maybe-exact, separated-exact}

@@ -16,7 +16,7 @@ use Rattle.sdp_formats_reader.specs.WholeLines.{IsLineOf}
 not_empty : (n : ℕ) (v : Bool) → (suc n == 0 && v) ≡ false
 not_empty n v = grind (arith, nat_tests)
 
--- the line that was read, with nothing behind it or something, and a value that is so or not
+-- the line that was read, with nothing after it or something, and a value that is so or not
 pub line_read : {A : Type 0} (f : Form A) → IsExact f → (text : List ℕ) (P : A → Type 0) (a : A) (rest : List ℕ)
     (v : Bool) → LineOf f.Says text a rest → (IsTrue v ↔ P a) → IsTrue ((length rest == 0) && v) ↔ IsLineOf f text P
 line_read f exact text P a [] v says so = (

@@ -21,11 +21,11 @@ is_word_byte b = not (b == 32) && not (b == 9)
 abbrev pub word : Form (List ℕ)
 word = only (list_all is_word_byte) any_text
 
--- The text behind one blank.
+-- The text after one blank.
 abbrev pub behind_blank : List ℕ → Option (List ℕ)
 behind_blank t = option_or (behind (codes " ") t) (behind (9 ∷ []) t)
 
--- The text behind the blanks that it begins with.
+-- The text after the blanks that it begins with.
 abbrev pub unblanked : List ℕ → List ℕ
 unblanked [] = []
 unblanked (b ∷ t) = if is_blank b then unblanked t else b ∷ t

@@ -28,7 +28,7 @@ ParsesSdp text (Err Memory) = Unit {0}
 ParsesSdp text (Err (ParseError t)) = SaysNothing text × (string_bytes t ≡ text_fault)
 ParsesSdp text (Err (Inconsistent t)) = ⊥
 
--- The same of what stands before the first section.
+-- The same of what is before the first section.
 abbrev pub ParsesSession : List ℕ → Result (Session × Bor (List ℕ)) SdpError → Type 0
 ParsesSession text (Ok r) = SessionSays text r.0 r.1.now
     × ((session : Session) (rest : List ℕ) → SessionSays text session rest → (session ≡ r.0) × (rest ≡ r.1.now))

@@ -59,7 +59,7 @@ fn unused(alloc: Global, text: &str) -> Result<SessionAttribute, Refusal>
     Ok(SessionAttribute::Unused(text_of(alloc, text)?))
 }
 
-/// What stands behind `a=`.
+/// What follows `a=`.
 fn session_attribute(alloc: Global, text: &str) -> Result<SessionAttribute, Refusal>
     ensures { Gives result (session_attribute.reads text.now) }
 {

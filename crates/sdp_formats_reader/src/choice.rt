@@ -86,7 +86,7 @@ fn unused(alloc: Global, text: &str) -> Result<MediaAttribute, Refusal>
     Ok(MediaAttribute::Unused(text_of(alloc, text)?))
 }
 
-/// What stands behind `a=`.
+/// What follows `a=`.
 fn media_attribute(alloc: Global, text: &str) -> Result<MediaAttribute, Refusal>
     ensures { Gives result (media_attribute.reads text.now) }
 {

@@ -45,7 +45,7 @@ impl Reads<u8> for HexByte {
 ///
 /// # Errors
 ///
-/// `Unfit` where it is no such value, `Memory` where memory runs out.
+/// `Unfit` if it is no such value, `Memory` if memory runs out.
 pub fn fingerprint_of(alloc: Global, value: &str) -> Result<Fingerprint, Refusal>
     ensures { Gives result (fingerprint.reads value.now) }
 {

@@ -44,7 +44,7 @@ fn is_blank_alone(text: &str) -> bool
         .all(|byte| *byte == b' ' || *byte == b'\t')
 }
 
-/// The text behind one blank or tab.
+/// The text after one blank or tab.
 fn behind_blank(text: &str) -> Option<&str>
     ensures { option_copied result ≡ behind_blank text.now }
 {
@@ -54,7 +54,7 @@ fn behind_blank(text: &str) -> Option<&str>
     }
 }
 
-/// The text behind the blanks and tabs that it begins with.
+/// The text after the blanks and tabs that it begins with.
 pub(crate) fn unblanked(text: &str) -> &str
     ensures { result.now ≡ unblanked text.now }
 {
@@ -73,7 +73,7 @@ fn word_before(text: &str) -> &str
     word
 }
 
-/// A word with blanks and tabs alone behind it.
+/// A word with blanks and tabs alone after it.
 #[tactic(auto, unfolding(crate::specs::Pairs::padded))]
 fn padded(text: &str) -> Result<&str, Refusal>
     ensures { GivesBy (λ x. x.now) result (padded text.now) }
@@ -119,7 +119,7 @@ impl Stepped<Pair> for PairStep {
     }
 }
 
-/// The pairs, where there are some and blanks alone are left.
+/// The pairs, if there are some and blanks alone are left.
 fn whole(pairs: Listed<Pair>, rest: &str) -> Result<Listed<Pair>, Refusal>
     ensures { Gives result (whole (pairs, rest.now)) }
 {
@@ -136,7 +136,7 @@ fn whole(pairs: Listed<Pair>, rest: &str) -> Result<Listed<Pair>, Refusal>
 ///
 /// # Errors
 ///
-/// `Unfit` where it has no pair, or something else stands behind the last one, `Memory` where memory runs out.
+/// `Unfit` if it has no pair, or something else follows the last one, `Memory` if memory runs out.
 pub fn pairs(alloc: Global, text: &str) -> Result<Listed<Pair>, Refusal>
     ensures { Gives result (pairs_of text.now) }
 {

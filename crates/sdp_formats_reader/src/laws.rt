@@ -3,7 +3,7 @@
 ghost use Rattle.sdp_formats_reader.specs.PairsSay.{PairsAreExact};
 ghost use Rattle.sdp_formats_reader.specs.PrintedPairs.{PairsComeBack, RestrictionsComeBack};
 
-/// A list of keys and values is read exactly where it says one, and says at most one.
+/// A list of keys and values is read if and only if it says one, and says at most one.
 pub fn pairs_law()
     ensures { PairsAreExact }
 {}

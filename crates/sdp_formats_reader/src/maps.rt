@@ -16,7 +16,7 @@ use std::alloc::Global;
 ///
 /// # Errors
 ///
-/// `Unfit` where the text writes no such number.
+/// `Unfit` if the text writes no such number.
 pub fn payload_type(text: &str) -> Result<Pt, Refusal>
     ensures gives { Gives result (payload_type.reads text.now) }
     ensures never_memory { IfErr result (λ e. e ≢ Refusal.Memory) }
@@ -44,7 +44,7 @@ fn clock_rate(text: &str) -> Result<Frequency, Refusal>
 ///
 /// # Errors
 ///
-/// `Unfit` where it is no such value, `Memory` where memory runs out.
+/// `Unfit` if it is no such value, `Memory` if memory runs out.
 pub fn rtcp_fb(alloc: Global, value: &str) -> Result<MediaAttribute, Refusal>
     ensures { Gives result (rtcp_fb.reads value.now) }
 {
@@ -59,7 +59,7 @@ pub fn rtcp_fb(alloc: Global, value: &str) -> Result<MediaAttribute, Refusal>
 ///
 /// # Errors
 ///
-/// `Unfit` where it is no such value.
+/// `Unfit` if it is no such value.
 pub fn rtpmap(value: &str) -> Result<MediaAttribute, Refusal>
     ensures gives { Gives result (rtpmap.reads value.now) }
     ensures never_memory { IfErr result (λ e. e ≢ Refusal.Memory) }

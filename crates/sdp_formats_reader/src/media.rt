@@ -22,7 +22,7 @@ pub struct MediaHead {
     pub disabled: bool,
     /// How it is carried.
     pub proto: Proto,
-    /// The payload types; none where the list isn't of numbers up to 255.
+    /// The payload types; none if the list isn't of numbers up to 255.
     pub pts: Listed<Pt>,
 }
 

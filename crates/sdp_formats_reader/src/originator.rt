@@ -14,7 +14,7 @@ fn session_number(text: &str) -> Result<u64, Refusal>
     number_64(text)
 }
 
-/// What stands behind `o=`.
+/// What follows `o=`.
 pub(crate) fn origin(value: &str) -> Result<u64, Refusal>
     ensures { Gives result (origin.reads value.now) }
 {

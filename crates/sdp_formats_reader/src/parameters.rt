@@ -100,12 +100,12 @@ fn bare_fmtp(alloc: Global, value: &str) -> Result<MediaAttribute, Refusal>
     Ok(MediaAttribute::Fmtp { pt, values })
 }
 
-/// The value of an `a=fmtp` line (RFC 8866 6.15): a payload type, and behind a blank keys with values, a list with
+/// The value of an `a=fmtp` line (RFC 8866 6.15): a payload type, and after a blank keys with values, a list with
 /// slashes, a range from 0 on, or anything.
 ///
 /// # Errors
 ///
-/// `Unfit` where it doesn't begin with a payload type up to 127, `Memory` where memory runs out.
+/// `Unfit` if it doesn't begin with a payload type up to 127, `Memory` if memory runs out.
 pub fn fmtp(alloc: Global, value: &str) -> Result<MediaAttribute, Refusal>
     ensures { Gives result (fmtp.reads value.now) }
 {

@@ -9,7 +9,7 @@ use sdp_formats_grammar::{Listed, Refusal, Stepped, halves, many, split};
 use sdp_formats_values::Pair;
 use std::alloc::Global;
 
-// A key with its value up to a semicolon, no blanks behind it.
+// A key with its value up to a semicolon, no blanks after it.
 struct RestrictionStep;
 
 #[tactic(auto, unfolding(crate::specs::Pairs::restriction_at))]
@@ -56,7 +56,7 @@ fn all_read(pairs: Listed<Pair>, rest: &str) -> Result<Listed<Pair>, Refusal>
 ///
 /// # Errors
 ///
-/// `Unfit` where it is no such list, `Memory` where memory runs out.
+/// `Unfit` if it is no such list, `Memory` if memory runs out.
 #[tactic(auto, unfolding(crate::specs::Pairs::restrictions_of))]
 pub fn restrictions(alloc: Global, text: &str) -> Result<Listed<Pair>, Refusal>
     ensures { Gives result (restrictions_of text.now) }

@@ -17,7 +17,7 @@ use sdp_formats_grammar::{Listed, Refusal, halves, some, split, stripped};
 use sdp_formats_values::{Pair, RestrictionId, RidDirection};
 use std::alloc::Global;
 
-// What stands behind the direction.
+// What follows the direction.
 #[derive(Drop)]
 struct Limits {
     pt: Listed<Pt>,
@@ -43,7 +43,7 @@ fn no_limits(alloc: Global) -> Limits
     }
 }
 
-/// Restrictions behind a payload type's blank: one at least.
+/// Restrictions after a payload type's blank: one at least.
 fn later_limits(alloc: Global, text: Option<&str>) -> Result<Listed<Pair>, Refusal>
     ensures { Gives result (later_limits (option_copied text.entry)) }
 {
@@ -116,7 +116,7 @@ fn or_none(alloc: Global, limits: Option<Limits>) -> Limits
 ///
 /// # Errors
 ///
-/// `Unfit` where it is no such value, `Memory` where memory runs out.
+/// `Unfit` if it is no such value, `Memory` if memory runs out.
 pub fn rid(alloc: Global, value: &str) -> Result<MediaAttribute, Refusal>
     ensures { Gives result (rid.reads value.now) }
 {

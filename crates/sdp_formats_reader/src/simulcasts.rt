@@ -126,7 +126,7 @@ fn made(
 ///
 /// # Errors
 ///
-/// `Unfit` where it is no such value, `Memory` where memory runs out.
+/// `Unfit` if it is no such value, `Memory` if memory runs out.
 pub fn simulcast(alloc: Global, value: &str) -> Result<Simulcast, Refusal>
     ensures { Gives result (simulcast.reads value.now) }
 {

@@ -28,7 +28,7 @@ impl Reads<Ssrc> for SsrcNumber {
 ///
 /// # Errors
 ///
-/// `Unfit` where it is no such value, `Memory` where memory runs out.
+/// `Unfit` if it is no such value, `Memory` if memory runs out.
 pub fn extmap(alloc: Global, value: &str) -> Result<MediaAttribute, Refusal>
     ensures { Gives result (extmap.reads value.now) }
 {
@@ -47,7 +47,7 @@ pub fn extmap(alloc: Global, value: &str) -> Result<MediaAttribute, Refusal>
 ///
 /// # Errors
 ///
-/// `Unfit` where it is no such value, `Memory` where memory runs out.
+/// `Unfit` if it is no such value, `Memory` if memory runs out.
 pub fn msid(alloc: Global, value: &str) -> Result<Msid, Refusal>
     ensures { Gives result (msid.reads value.now) }
 {
@@ -62,7 +62,7 @@ pub fn msid(alloc: Global, value: &str) -> Result<Msid, Refusal>
 ///
 /// # Errors
 ///
-/// `Unfit` where it is no such value, `Memory` where memory runs out.
+/// `Unfit` if it is no such value, `Memory` if memory runs out.
 pub fn ssrc(alloc: Global, value: &str) -> Result<MediaAttribute, Refusal>
     ensures { Gives result (ssrc.reads value.now) }
 {
@@ -80,7 +80,7 @@ pub fn ssrc(alloc: Global, value: &str) -> Result<MediaAttribute, Refusal>
 ///
 /// # Errors
 ///
-/// `Unfit` where it is no such value, `Memory` where memory runs out.
+/// `Unfit` if it is no such value, `Memory` if memory runs out.
 pub fn ssrc_group(alloc: Global, value: &str) -> Result<MediaAttribute, Refusal>
     ensures { Gives result (ssrc_group.reads value.now) }
 {

@@ -5,7 +5,7 @@ use sdp_formats_grammar::Maybe;
 use std::fmt;
 use std::fmt::Display;
 
-// An attribute, and others behind it.
+// An attribute, and others after it.
 #[derive(Drop)]
 struct FirstAttributes<'a> {
     first: &'a SessionAttribute,
@@ -59,7 +59,7 @@ impl fmt::Display for WithFirst<'_> {
 pub struct WholeText<'a> {
     /// The session.
     pub session: &'a Session,
-    /// The attribute that stands before the session's own.
+    /// The attribute that is before the session's own.
     pub first: &'a SessionAttribute,
     /// The sections.
     pub sections: &'a [MediaLine],

@@ -67,7 +67,7 @@ impl TransportAttribute {
 ///
 /// # Errors
 ///
-/// `Unfit` where the name is none of theirs or the value doesn't fit it, `Memory` where memory runs out.
+/// `Unfit` if the name is none of theirs or the value doesn't fit it, `Memory` if memory runs out.
 pub fn transport_value(
     alloc: Global,
     name: &str,
@@ -90,7 +90,7 @@ pub fn transport_value(
 ///
 /// # Errors
 ///
-/// `Unfit` where it is no such word.
+/// `Unfit` if it is no such word.
 pub fn transport_word(text: &str) -> Result<TransportAttribute, Refusal>
     ensures { Gives result (alone_of transport_kinds text.now) }
 {

@@ -13,11 +13,11 @@ use sdp_formats_data::{MediaAttribute, MediaLine, Sdp, Session, SessionAttribute
 use sdp_formats_grammar::{Lined, Refusal, many};
 use std::alloc::Global;
 
-/// What stands before the first section of a text, and the text behind it (RFC 8866 5).
+/// What is before the first section of a text, and the text after it (RFC 8866 5).
 ///
 /// # Errors
 ///
-/// `Unfit` where the text has no good header, `Memory` where memory runs out.
+/// `Unfit` if the text has no good header, `Memory` if memory runs out.
 pub(crate) fn read_session(alloc: Global, text: &str) -> Result<(Session, &str), Refusal>
     ensures { ReadsSession text.now result }
 {
@@ -29,7 +29,7 @@ pub(crate) fn read_session(alloc: Global, text: &str) -> Result<(Session, &str),
 ///
 /// # Errors
 ///
-/// `Unfit` where the text has no good header, or a section with a fault; `Memory` where memory runs out.
+/// `Unfit` if the text has no good header, or a section with a fault; `Memory` if memory runs out.
 pub(crate) fn read_sdp(alloc: Global, text: &str) -> Result<(Sdp, &str), Refusal>
     ensures { ReadsSdp text.now result }
 {

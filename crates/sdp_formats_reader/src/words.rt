@@ -11,7 +11,7 @@ use sdp_formats_values::Setup;
 ///
 /// # Errors
 ///
-/// `Unfit` where it is none of the three words.
+/// `Unfit` if it is none of the three words.
 pub fn setup_of(word: &str) -> Result<Setup, Refusal>
     ensures gives { Gives result (setup_word word.now) }
     ensures never_memory { IfErr result (λ e. e ≢ Refusal.Memory) }

@@ -33,7 +33,7 @@ fn may_have(alloc: Global, bandwidth: &Option<Bandwidth>) -> Result<bool, AllocE
 ///
 /// # Errors
 ///
-/// `AllocError` where memory runs out.
+/// `AllocError` if memory runs out.
 pub fn is_writable_session(alloc: Global, session: &Session) -> Result<bool, AllocError>
     ensures { IfOk result (λ writable. IsTrue writable ↔ IsWritableSession session.now) }
 {

@@ -74,7 +74,7 @@ fewer_none spec p (r ∷ rows) e = at (score spec r.spec) refl (fewer_none spec 
     at (Some n) q g = absurd (some_stays spec r rows (let on : Option Row
         → Option Row = λ o. fold (better spec) o rows in sym (ap on (first_some spec r n q)) ∙ e))
 
--- the best row is one of them, also where some are left aside
+-- the best row is one of them, also if some are left aside
 best_from : (spec : CodecSpec) (o : Option Row) (rows : List Row) (b : Row) → fold (better spec) o rows ≡ Some b
     → (o ≡ Some b) ⊎ IsIn b rows
 best_from spec o [] b e = inl e

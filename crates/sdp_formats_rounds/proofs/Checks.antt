@@ -37,7 +37,7 @@ pub check_three : (before a b c : List Held) → check before (a ++ (b ++ c))
 check_three before a b c = check_append before a (b ++ c)
     ∙ ap (λ o. option_or (check before a) o) (check_append (before ++ a) b c)
 
--- The refusal of an answer, where it is one.
+-- The refusal of an answer, if it is one.
 abbrev pub refusal : {A : Type 0} → Result A RoundError → Option RoundError
 refusal (Ok x) = None
 refusal (Err e) = Some e

@@ -10,7 +10,7 @@ use Rattle.sdp_formats_rounds.specs.Rounded.{Follows, StopsAt}
 use Rattle.sdp_formats_rounds.proofs.Chains.{split_err, then_err, then_ok}
 use Rattle.sdp_formats_rounds.proofs.Tables.{ok_err, ok_is}
 
--- What a turn of one of all rows makes of it, where what holds of the rows before it holds.
+-- What a turn of one of all rows makes of it, if what holds of the rows before it holds.
 pub record Turns (all : List Row) (I : List Row → List Row → Type 0)
     (step : List Row → Row → List Row → Result Row RoundError) (R : List Row → Row → Row → Type 0)
     (F : List Row → Row → RoundError → Type 0) : Type 0 where
@@ -65,7 +65,7 @@ follow_back all I step R F t xs done (x ∷ rest) (y ∷ ys) tail p i f =
           (subst (λ a. I ((xs ++ x ∷ []) ++ rest) a) (append_assoc done (y ∷ []) ys) m.1),
     )
 
--- Where a list is refused that begins behind others.
+-- Where a list is refused that begins after others.
 pub record Stops (R : List Row → Row → Row → Type 0) (F : List Row → Row → RoundError → Type 0) (done rows : List Row)
     (e : RoundError) : Type 0 where
   pub before : List Row

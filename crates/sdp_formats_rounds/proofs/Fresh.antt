@@ -76,7 +76,7 @@ agreed_unclaimed role dictated before now own ours theirs t e =
     let s = split_ok (tested role now own theirs) (instead_of role dictated before now own ours theirs) t e in
     instead_unclaimed role dictated before now own ours theirs t s.0 (tested_is role now own theirs s.0 s.1) s.2
 
--- where types are dictated the other end's is the one
+-- if types are dictated the other end's is the one
 pub dictated_same : (role : Role) (before now : List Row) (own : Own) (ours : Option ℕ) (theirs t : ℕ)
     → agreed_type role true before now own ours theirs ≡ Ok t → t ≡ theirs
 dictated_same role before now own ours theirs t e =

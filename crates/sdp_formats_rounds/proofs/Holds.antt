@@ -70,7 +70,7 @@ open_one_of dictated remote now row best e = at (dictated && is_codec row.spec.c
     at true f = above_at (first_above remote) f
     at false f = best_in row.spec remote best (ok_same (best_row row.spec remote) (Some best) f)
 
--- where none are left aside it is the best of all
+-- if none are left aside it is the best of all
 open_is_best : (dictated : Bool) (remote now : List Row) (row best : Row)
     → open_best dictated remote now row ≡ Ok (Some best) → (dictated && is_codec row.spec.codec AmrWb) ≡ false
     → best_row row.spec remote ≡ Some best
@@ -83,7 +83,7 @@ restated_feedback row (Some best) = (refl, refl, refl, refl)
 kept_on : (row mid new : Row) → KeepsFeedback row mid → KeepsFeedback mid new → KeepsFeedback row new
 kept_on row mid new a b = (b.0 ∙ a.0, b.1 ∙ a.1, b.2 ∙ a.2, b.3 ∙ a.3)
 
--- where none are left aside one that matches is found
+-- if none are left aside one that matches is found
 open_is_found : (dictated : Bool) (remote now : List Row) (row best : Row) → open_best dictated remote now row ≡ Ok None
     → (dictated && is_codec row.spec.codec AmrWb) ≡ false → best_row row.spec remote ≡ Some best → ⊥
 open_is_found dictated remote now row best e all is =

@@ -1,4 +1,4 @@
--- Rows that are locked before a round have distinct types where it goes on.
+-- Rows that are locked before a round have distinct types if it goes on.
 use Rattle.std.proofs.Common.{◌≡◌, ℕ, Bool, true, false, List, [], ◌∷◌, ◌++◌, refl, sym, ◌∙◌, Option, Some, None, Ok}
 use Rattle.std.proofs.Common.{append-nil, if◌then◌else◌}
 use Rattle.sdp_formats_rows.specs.Rows.{Row}

@@ -31,7 +31,7 @@ pub record Made (dictated : Bool) (now : List Row) (row best new : Row) : Type 0
   pub red : (t : ℕ) → new.red ≡ Some t → (is_audio_codec row.spec.codec ≡ true) × (row.red ≢ None) × (best.red ≢ None)
   pub others : KeepsFeedback row new
 
--- an RTX type just where the other end has one
+-- an RTX type if and only if the other end has one
 resend_with : (dictated : Bool) (before now : List Row) (own : Own) (ours theirs resend : Option ℕ)
     → agreed_resend dictated before now own ours theirs ≡ Ok resend → is_none resend ≡ is_none theirs
 resend_with dictated before now own ours None resend e = ap is_none (sym (ok_same None resend e))
@@ -39,7 +39,7 @@ resend_with dictated before now own ours (Some u) resend e =
     let s = split_ok (agreed_type Resend dictated before now own ours u) (λ t. Ok (Some t)) resend e in
     ap is_none (sym (ok_same (Some s.0) resend s.2))
 
--- a RED type only where both have one and the codec is audio
+-- a RED type only if both have one and the codec is audio
 red_both : (dictated : Bool) (before now : List Row) (own : Own) (audio : Bool) (ours theirs red : Option ℕ) (t : ℕ)
     → agreed_red dictated before now own audio ours theirs ≡ Ok red → red ≡ Some t
     → (audio ≡ true) × (ours ≢ None) × (theirs ≢ None)

@@ -68,7 +68,7 @@ locked_numbers (row ∷ rows) t = at row.locked refl (locked_numbers rows t)
         ∙ ap (λ b. is_among (numbers (held_by row)) t || b) ih
         ∙ sym (ap (λ l. is_among (numbers l) t) (held_one row rows is) ∙ ap (λ l. is_among l t) m ∙ a)
 
--- the types that a row was given before, behind the others
+-- the types that a row was given before, after the others
 own_none : (done : List Row) (t : ℕ) → is_claimed done none_given t ≡ is_among (numbers (held done)) t
 own_none done t = let l = locked_numbers done t in grind (arith, common_steps)
 
@@ -95,7 +95,7 @@ own_two done pt resend t =
     at None = grind (arith, common_steps)
     at (Some r) = grind (arith, common_steps)
 
--- a type that has to be unclaimed, and one that has to be where it is given
+-- a type that has to be unclaimed, and one that has to be if it is given
 abbrev unclaimed_by : RoundError → ℕ → Bool → Result ℕ RoundError
 unclaimed_by e t claimed = and_then (let r : Result Bool RoundError = if nat_lt 127 t then Err e else Ok claimed in r)
     (λ b. if b then Err e else Ok t)

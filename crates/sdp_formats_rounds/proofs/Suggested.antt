@@ -49,7 +49,7 @@ or_nothing : (a : Bool) → (a || (false || false)) ≡ true → a ≡ true
 or_nothing true e = refl
 or_nothing false e = e
 
--- the type that a match gives where none is dictated
+-- the type that a match gives if none is dictated
 given_type : (before now : List Row) (ours : Option ℕ) (theirs t : ℕ)
     → agreed_type Main false before now none_given ours theirs ≡ Ok t
     → (t ≡ theirs) ⊎ (is_locked_type now theirs ≡ true)

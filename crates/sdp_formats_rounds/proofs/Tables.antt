@@ -158,7 +158,7 @@ agreed_err f d c o theirs e is = at (nat_lt 127 theirs) (is_among c.claimed thei
     at false true true x y z is = inr (inl (z, (x, y), sym (err_is (f theirs) e is)))
     at false true false x y z is = inr (inr (z, (x, y), own_err f c o e is))
 
--- the same where the type and whether types are dictated are known
+-- the same if the type and whether types are dictated are known
 agreed_at : (f : ℕ → RoundError) (d : Bool) (c : Claims) (o : Option ℕ) (theirs : ℕ) (above claimed dictated : Bool)
     → nat_lt 127 theirs ≡ above → is_among c.claimed theirs ≡ claimed → d ≡ dictated
     → agreed_by f d (is_among c.claimed) (free_of c) o theirs ≡ met_as (f theirs)

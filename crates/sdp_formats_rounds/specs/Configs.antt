@@ -14,7 +14,7 @@ pub record Config : Type 0 where
 abbrev pub with_rows : Codec → List Row → Config → Config
 with_rows codec rows config = record config { rows = rows_without codec config.rows ++ rows }
 
--- The rows with one more behind them.
+-- The rows with one more after them.
 abbrev pub with_row : Row → Config → Config
 with_row row config = record config { rows = config.rows ++ row ∷ [] }
 
@@ -27,7 +27,7 @@ distances_of (d ∷ ds) = d ∷ ds
 abbrev pub kept_distances : List ℕ → List ℕ
 kept_distances given = filter (λ d. d == 1 || list_any (λ e. e == d) given) (1 ∷ 2 ∷ 3 ∷ 4 ∷ 5 ∷ 6 ∷ 7 ∷ 8 ∷ [])
 
--- The rows of a codec where it is enabled, else none.
+-- The rows of a codec if it is enabled, else none.
 abbrev pub rows_if : Bool → List Row → List Row
 rows_if true rows = rows
 rows_if false rows = []

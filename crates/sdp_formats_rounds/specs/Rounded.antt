@@ -64,7 +64,7 @@ abbrev pub best_met : Bool → Claims → List Row → Row → Option Row
 best_met dictated c remote row = best_row row.spec
     (if is_choosy dictated row then filter (λ r. not (is_among c.claimed r.pt)) remote else remote)
 
--- The first row of the other end with a type above 127, where all their types are tested.
+-- The first row of the other end with a type above 127, if all their types are tested.
 abbrev pub above_met : Bool → List Row → Row → Option Row
 above_met dictated remote row = if is_choosy dictated row then first_above remote else None
 

@@ -42,7 +42,7 @@ abbrev pub unclaimed_if_given : Role → List Row → Own → Option ℕ → Res
 unclaimed_if_given role rows own None = Ok None
 unclaimed_if_given role rows own (Some t) = and_then (unclaimed role rows own t) (λ u. Ok (Some u))
 
--- A free type, where there is one.
+-- A free type, if there is one.
 abbrev pub found : Option ℕ → Result ℕ RoundError
 found None = Err NoFreeType
 found (Some t) = Ok t

@@ -40,7 +40,7 @@ pub fn better<'a>(
     best
 }
 
-/// The row that matches a row best: the last of the greatest score, or None where none matches.
+/// The row that matches a row best: the last of the greatest score, or None if none matches.
 pub fn best_row<'a>(row: &PayloadParams, rows: &'a [PayloadParams]) -> Option<&'a PayloadParams>
     ensures { option_copied result ≡ best_row row.now.spec rows.now }
 {

@@ -25,7 +25,7 @@ pub(crate) struct Own {
     pub second: Option<u8>,
 }
 
-/// The number of a type, where there is one.
+/// The number of a type, if there is one.
 pub(crate) fn number_of(pt: Option<Pt>) -> Option<u8>
     ensures { result ≡ pt }
 {
@@ -172,7 +172,7 @@ pub(crate) fn free_type(before: &[PayloadParams], now: &[PayloadParams], own: Ow
         .find(|pt| is_free(before, now, own, *pt))
 }
 
-/// A free type, or the refusal where there is none.
+/// A free type, or the refusal if there is none.
 pub(crate) fn found(free: Option<u8>) -> Result<u8, RoundError>
     ensures { result ≡ found free }
 {

@@ -83,7 +83,7 @@ impl CodecConfig {
     ///
     /// # Errors
     ///
-    /// `AllocError` where memory runs out.
+    /// `AllocError` if memory runs out.
     pub fn new_with_defaults(alloc: Global) -> Result<Self, AllocError>
         ensures { IfOk result (λ config. config ≡ record { rows = default_rows; distances = [] }) }
     {
@@ -103,7 +103,7 @@ impl CodecConfig {
     ///
     /// # Errors
     ///
-    /// `AllocError` where memory runs out.
+    /// `AllocError` if memory runs out.
     pub fn clone(&self) -> Result<Self, AllocError>
         ensures { IfOk result (λ config. config ≡ self.now) }
     {

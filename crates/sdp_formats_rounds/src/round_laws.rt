@@ -24,7 +24,7 @@ pub fn unlocked_rows_apart()
     ensures { UnlockedRowsApart }
 {}
 
-/// Where the other end doesn't dictate types, a type that it suggests is taken over, unless a locked row has it.
+/// If the other end doesn't dictate types, a type that it suggests is taken over, unless a locked row has it.
 pub fn suggested_types_taken()
     ensures { SuggestedTypesTaken }
 {}

@@ -10,7 +10,7 @@ use crate::claims::{
 use crate::error::RoundError;
 use sdp_formats_rows::PayloadParams;
 
-/// The type, or a free one where a locked row has it.
+/// The type, or a free one if a locked row has it.
 fn moved_type(
     role: Role,
     before: &[PayloadParams],

@@ -16,14 +16,14 @@ pub fn types_stay_apart()
     ensures rounds { RoundsKeepTypesApart }
 {}
 
-/// The types of all rows are apart where those of locked and of unlocked rows are, among themselves and from one
-/// another; and those of unlocked rows are apart where those of all rows are.
+/// The types of all rows are apart if those of locked and of unlocked rows are, among themselves and from one
+/// another; and those of unlocked rows are apart if those of all rows are.
 pub fn all_are_apart()
     ensures all { AllAreApart }
     ensures unlocked { UnlockedAreApart }
 {}
 
-/// Rows that are chosen, each once by its type, have types apart where all rows have, and are as all rows are.
+/// Rows that are chosen, each once by its type, have types apart if all rows have, and are as all rows are.
 pub fn chosen_are_apart()
     ensures apart { ChosenAreApart }
     ensures all { ChosenAreAsAll }

@@ -1,4 +1,4 @@
--- The texts of a format's parameters, one behind the other.
+-- The texts of a format's parameters, one after the other.
 use Rattle.std.proofs.Common.{◌≡◌, ℕ, Bool, true, false, List, ◌∷◌, ◌++◌, map, refl, ◌∙◌, ap, Option, Some, None}
 use Rattle.std.proofs.Common.{append_assoc, codes}
 use Rattle.std.specs.List.{flat_map}

@@ -10,7 +10,7 @@ use Rattle.sdp_formats_rows.specs.declared.format.FormatParams.{FormatParams}
 use Rattle.sdp_formats_rows.specs.Formats.{no_format}
 use Rattle.sdp_formats_rows.specs.Rows.{Row, new_row}
 
--- The row with a RED type, where one is wanted (RFC 2198).
+-- The row with a RED type, if one is wanted (RFC 2198).
 abbrev pub with_red_if : Bool → ℕ → Row → Row
 with_red_if use_red red row = record row { red = if use_red then Some red else None }
 

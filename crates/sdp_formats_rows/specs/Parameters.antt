@@ -6,7 +6,7 @@ use Rattle.sdp_formats_values.specs.declared.param.FormatParam.{FormatParam}
 use Rattle.sdp_formats_values.specs.declared.param.FormatParam.TheVariants as param
 use Rattle.sdp_formats_rows.specs.declared.format.FormatParams.{FormatParams}
 
--- Each parameter that a format may give, with its value where it gives it, in the order of printing.
+-- Each parameter that a format may give, with its value if it gives it, in the order of printing.
 abbrev pub each_param : FormatParams → List (Option FormatParam)
 each_param f =
     option_map param.MinPTime f.min_p_time

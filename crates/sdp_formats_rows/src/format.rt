@@ -43,7 +43,7 @@ pub struct FormatParams {
     pub h265_profile_tier_level: Option<H265ProfileTierLevel>,
     /// The profile, tier and level of H.266 (RFC 9328 7.2).
     pub h266_profile_tier_level: Option<H266ProfileTierLevel>,
-    /// `sprop-max-don-diff`, 0 to 32,767: decoding order numbers are sent where it is above 0
+    /// `sprop-max-don-diff`, 0 to 32,767: decoding order numbers are sent if it is above 0
     /// (RFC 7798 7.1, RFC 9328 7.2).
     pub sprop_max_don_diff: Option<u16>,
     /// The highest event code in the range `0-X` of telephone events (RFC 4733 2.4.1).
@@ -67,11 +67,11 @@ impl FormatParams {
     /// The parameters of an `a=fmtp` line's text, as `minptime=10;useinbandfec=1`, or `0-16` for
     /// telephone events (RFC 8866 6.15).
     ///
-    /// Of each part between semicolons the key, in any ASCII case, and the value behind an equals
-    /// sign are read without the blanks round them; what stands behind a second equals sign doesn't
+    /// Of each part between semicolons the key, in any ASCII case, and the value after an equals
+    /// sign are read without the blanks round them; what follows a second equals sign doesn't
     /// count. A later value replaces an earlier one. Keys that are unknown and values that don't
     /// parse are passed over; but a flag is on at `1` and off at all else, so each of its values
-    /// counts. Where a key is `tier-flag` or `level-id`, each key counts with its last value alone,
+    /// counts. If a key is `tier-flag` or `level-id`, each key counts with its last value alone,
     /// and `profile-id`, `tier-flag` and `level-id` are the profile, tier and level of H.265, else of
     /// H.266, if they mean one (RFC 7798 7.1, RFC 9328 7.2).
     pub fn parse_line(line: &str) -> FormatParams

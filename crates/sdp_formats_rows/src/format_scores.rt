@@ -40,14 +40,14 @@ pub fn modes_score(a: Option<u16>, b: Option<u16>) -> Option<usize>
     }
 }
 
-/// The points of two formats of VP9: one profile, 0 where none is given (RFC 9628 6.1).
+/// The points of two formats of VP9: one profile, 0 if none is given (RFC 9628 6.1).
 fn vp9_score(a: &FormatParams, b: &FormatParams) -> Option<usize>
     ensures { result ≡ vp9_score a.now b.now }
 {
     points_if(a.profile_id.unwrap_or(0) == b.profile_id.unwrap_or(0), 100)
 }
 
-/// The points of two formats of AV1: one profile, level and tier, each at its default where it isn't given.
+/// The points of two formats of AV1: one profile, level and tier, each at its default if it isn't given.
 fn av1_score(a: &FormatParams, b: &FormatParams) -> Option<usize>
     ensures { result ≡ av1_score a.now b.now }
 {

@@ -47,7 +47,7 @@ fn is_of_kind(
 ///
 /// # Errors
 ///
-/// `AllocError` where memory runs out.
+/// `AllocError` if memory runs out.
 pub fn rows_of_kind(
     alloc: Global,
     kind: MediaKind,

@@ -50,7 +50,7 @@ fn profile_alone<P: InTable, L: InTable>(given: &GivenLevel<P, L>) -> u32
 }
 
 /// How well two formats of H.265 or of H.266 match, up to 100: with profile, tier and level at both sides, in one
-/// profile and one tier, 100 less the distance of their levels; where a side gives no level, 90 in one profile; else
+/// profile and one tier, 100 less the distance of their levels; if a side gives no level, 90 in one profile; else
 /// not at all.
 pub fn level_score<P: InTable, L: Level>(
     a: &GivenLevel<P, L>,

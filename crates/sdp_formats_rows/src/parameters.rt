@@ -7,7 +7,7 @@ use crate::format::FormatParams;
 use sdp_formats_values::FormatParam;
 use std::alloc::{AllocError, Global};
 
-/// Each parameter that a format may give, with its value where it gives it, in the order of printing.
+/// Each parameter that a format may give, with its value if it gives it, in the order of printing.
 pub(crate) fn each_param(f: &FormatParams) -> [Option<FormatParam>; 18]
     ensures { result ≡ each_param f.now }
 {
@@ -41,7 +41,7 @@ impl FormatParams {
     ///
     /// # Errors
     ///
-    /// `AllocError` where memory runs out.
+    /// `AllocError` if memory runs out.
     pub fn to_format_param(&self, alloc: Global) -> Result<Vec<FormatParam>, AllocError>
         ensures { IfOk result (λ params. params.items ≡ params_of self.now) }
     {

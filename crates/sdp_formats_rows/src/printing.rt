@@ -10,7 +10,7 @@ use media_types::{InTable, ProfileTierLevel};
 use sdp_formats_values::FormatParam;
 use std::fmt;
 
-// A parameter, behind a semicolon unless it is the first.
+// A parameter, after a semicolon unless it is the first.
 #[derive(Drop)]
 struct Part(bool, FormatParam);
 

@@ -23,11 +23,11 @@ pub fn drop_rows(rows: &mut Vec<PayloadParams>, codec: Codec)
     rows.retain(|row| !is_same_codec(row.spec().codec, codec));
 }
 
-/// Puts these rows behind all others in the place of those of a codec.
+/// Puts these rows after all others in the place of those of a codec.
 ///
 /// # Errors
 ///
-/// `AllocError` where memory runs out; the rows are then as before.
+/// `AllocError` if memory runs out; the rows are then as before.
 pub fn put_rows(
     rows: &mut Vec<PayloadParams>,
     codec: Codec,

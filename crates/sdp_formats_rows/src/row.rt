@@ -32,7 +32,7 @@ struct Feedback {
 
 /// A row: a payload type, the codec that it stands for, and the feedback that it uses.
 ///
-/// Two rows are equal where all but their locks are.
+/// Two rows are equal if all but their locks are.
 #[derive(Clone, Copy, Debug, Drop)]
 #[derive_where(PartialEq, Eq)]
 pub struct PayloadParams {
@@ -131,15 +131,15 @@ impl PayloadParams {
     /// all. Payload types, feedback and locks don't count, nor does the side.
     ///
     /// Telephone events match by 100 whatever their channels and range. AMR-WB needs mono and one layout at both
-    /// sides (RFC 4867 8.3.1): it gets 100 where neither side gives a set of modes, and 99 where both give the same
+    /// sides (RFC 4867 8.3.1): it gets 100 if neither side gives a set of modes, and 99 if both give the same
     /// set or one side alone gives one. All other codecs need the same channels; they get 100 for the same format,
     /// and for formats that differ the points of their codec's table:
     ///
     /// - Opus loses points of 100 for each parameter that differs (RFC 7587 6.1);
     /// - H.264 needs one packetization mode and one profile, and loses the distance of the levels (RFC 6184 8.2.2);
-    /// - H.265 and H.266 need one profile and one tier, and lose the distance of the levels; where a side gives no
+    /// - H.265 and H.266 need one profile and one tier, and lose the distance of the levels; if a side gives no
     ///   level, one profile gets 90 (RFC 7798 7.1, RFC 9328 7.2);
-    /// - VP9 gets 100 for one profile, AV1 for one profile, level and tier, each at its default where it isn't given;
+    /// - VP9 gets 100 for one profile, AV1 for one profile, level and tier, each at its default if it isn't given;
     /// - others don't match.
     pub fn match_score(&self, other: &PayloadParams) -> Option<usize>
         ensures { result ≡ score self.now.spec other.now.spec }
@@ -150,13 +150,13 @@ impl PayloadParams {
     /// Whether a section can list the row so that it comes back as it is: audio, video or telephone events, under types
     /// of seven bits.
     ///
-    /// G.722 stands at 16,000 Hz without its one channel; video uses NACK, PLI, FIR and REMB, others none of them; only
+    /// G.722 is at 16,000 Hz without its one channel; video uses NACK, PLI, FIR and REMB, others none of them; only
     /// audio has a RED type; telephone events have a maximum and nothing else, others none; a profile, tier and level
-    /// stands under its own codec; and the format's text is read as the format.
+    /// is under its own codec; and the format's text is read as the format.
     ///
     /// # Errors
     ///
-    /// `AllocError` where memory for the format's text runs out, of a row alone that has all the rest.
+    /// `AllocError` if memory for the format's text runs out, of a row alone that has all the rest.
     pub fn is_plain(&self, alloc: Global) -> Result<bool, AllocError>
         ensures answer { IfOk result (λ b. b ≡ is_plain self.now) }
         ensures never_memory { has_plain_others self.now ≡ false → result ≡ Ok false }
@@ -171,7 +171,7 @@ impl PayloadParams {
         self.types.pt
     }
 
-    /// The type of its retransmissions, where they have one (RFC 4588).
+    /// The type of its retransmissions, if they have one (RFC 4588).
     pub fn resend(&self) -> Option<Pt>
         ensures { result ≡ self.now.resend }
     {
@@ -185,7 +185,7 @@ impl PayloadParams {
         self.spec
     }
 
-    /// The RED type that wraps the codec, where there is one (RFC 2198).
+    /// The RED type that wraps the codec, if there is one (RFC 2198).
     pub fn red(&self) -> Option<Pt>
         ensures { result ≡ self.now.red }
     {

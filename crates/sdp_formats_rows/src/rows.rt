@@ -167,7 +167,7 @@ fn h264_mode(number: u8, resend: u8, mode: bool, profile_level_id: u32) -> Paylo
     h264_row(Pt::new_with_value(number), resend, mode, profile_level_id)
 }
 
-/// H.264 under this type, its retransmissions under `resend`, with level asymmetry, in packetization mode 1 where
+/// H.264 under this type, its retransmissions under `resend`, with level asymmetry, in packetization mode 1 if
 /// `mode` holds and else 0; `profile_level_id` has the three bytes of profile, constraints and level (RFC 6184 8.1).
 pub fn h264_row(pt: Pt, resend: Option<Pt>, mode: bool, profile_level_id: u32) -> PayloadParams
     ensures { result ≡ new_row pt resend (spec_of H264 90000 (h264_format mode profile_level_id)) }
@@ -182,7 +182,7 @@ pub fn h264_row(pt: Pt, resend: Option<Pt>, mode: bool, profile_level_id: u32) -
 }
 
 /// H.265 under this type, its retransmissions under `resend`. `numbers` are the profile, the tier and the level
-/// (RFC 7798 7.1); where one is none that is known, the row is of what holds where nothing is said.
+/// (RFC 7798 7.1); if one is none that is known, the row is of what holds if nothing is said.
 pub fn h265_row(pt: Pt, resend: Option<Pt>, numbers: (u8, u8, u8)) -> PayloadParams
     ensures { result ≡ h265_row pt resend numbers }
 {
@@ -194,7 +194,7 @@ pub fn h265_row(pt: Pt, resend: Option<Pt>, numbers: (u8, u8, u8)) -> PayloadPar
 }
 
 /// H.266 under this type, its retransmissions under `resend`. `numbers` are the profile, the tier and the level
-/// (RFC 9328 7.2); where one is none that is known, the row is of what holds where nothing is said.
+/// (RFC 9328 7.2); if one is none that is known, the row is of what holds if nothing is said.
 pub fn h266_row(pt: Pt, resend: Option<Pt>, numbers: (u8, u8, u8)) -> PayloadParams
     ensures { result ≡ h266_row pt resend numbers }
 {

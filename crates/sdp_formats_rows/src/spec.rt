@@ -11,7 +11,7 @@ pub struct CodecSpec {
     pub codec: Codec,
     /// The clock rate in ticks a second.
     pub clock_rate: Frequency,
-    /// The number of audio channels, where it is given.
+    /// The number of audio channels, if it is given.
     pub channels: Option<u8>,
     /// The format parameters.
     pub format: FormatParams,

@@ -11,7 +11,7 @@ use Rattle.sdp_formats_section_rows.specs.Mapped.{is_mapped_to}
 use Rattle.sdp_formats_section_rows.specs.TypeLists.{is_listed, types_to, with_type}
 use Rattle.sdp_formats_section_rows.specs.declared.mapped.Mapping.{Mapping}
 
--- behind a list stands the type that was put there
+-- after a list is the type that was put there
 one_more : (types : List ℕ) (t p : ℕ) → is_listed (types ++ t ∷ []) p ≡ (is_listed types p || t == p)
 one_more types t p =
     list_any-append (λ x. x == p) types (t ∷ []) ∙ ap (λ b. is_listed types p || b) (or-false (t == p))

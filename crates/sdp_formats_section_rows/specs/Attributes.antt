@@ -23,7 +23,7 @@ params_in spec =
     if is_tele_codec spec.codec then param.TelephoneEvents (unwrap_or spec.format.telephone_event_max 16) ∷ []
     else params_of spec.format
 
--- A line `a=fmtp`, where there are parameters.
+-- A line `a=fmtp`, if there are parameters.
 unfoldable pub fmtp_of : ℕ → List FormatParam → List MediaAttribute
 fmtp_of pt [] = []
 fmtp_of pt (p ∷ ps) = attribute.Fmtp pt (p ∷ ps) ∷ []

@@ -101,7 +101,7 @@ pub trait AsMediaAttrs {
     ///
     /// # Errors
     ///
-    /// `AllocError` where memory runs out.
+    /// `AllocError` if memory runs out.
     fn as_media_attrs(&self, alloc: Global) -> Result<Vec<MediaAttribute>, AllocError>;
 }
 

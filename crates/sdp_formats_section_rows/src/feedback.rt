@@ -78,7 +78,7 @@ fn push_line(
     Ok(())
 }
 
-/// Puts a line for each feedback that the row uses behind the attributes.
+/// Puts a line for each feedback that the row uses after the attributes.
 pub(crate) fn push_feedback(
     alloc: Global,
     attributes: &mut Vec<MediaAttribute>,

@@ -131,7 +131,7 @@ pub fn events_given(pt: Pt, attributes: &[MediaAttribute]) -> Events
     events
 }
 
-/// The highest event: 16 where no line is of the type; None where the lines decline.
+/// The highest event: 16 if no line is of the type; None if the lines decline.
 pub fn most_of(events: Events) -> Option<u8>
     ensures { result ≡ most_of events }
 {

@@ -59,7 +59,7 @@ fn is_mapped(mappings: &[Mapping], pt: Pt) -> bool
     mappings.iter().any(|mapping| mapping.pt.get() == pt.get())
 }
 
-/// Puts a static type behind the mappings, unless it is mapped.
+/// Puts a static type after the mappings, unless it is mapped.
 fn push_unless_mapped(
     mappings: &mut Vec<Mapping>,
     pt: Pt,

@@ -7,7 +7,7 @@ use sdp_formats_rows::CodecSpec;
 use sdp_formats_values::FormatParam;
 use std::alloc::{AllocError, Global};
 
-/// The parameters of a codec: those of its format, or the range of telephone events, up to 16 where none is given
+/// The parameters of a codec: those of its format, or the range of telephone events, up to 16 if none is given
 /// (RFC 4733 2.4.1).
 pub(crate) fn params_in(alloc: Global, spec: &CodecSpec) -> Result<Vec<FormatParam>, AllocError>
     ensures { IfOk result (λ params. params.items ≡ params_in spec.now) }

@@ -169,7 +169,7 @@ pub trait RtpParams {
     ///
     /// # Errors
     ///
-    /// `AllocError` where memory runs out.
+    /// `AllocError` if memory runs out.
     fn rtp_params(&self, alloc: Global) -> Result<Vec<PayloadParams>, AllocError>;
 }
 

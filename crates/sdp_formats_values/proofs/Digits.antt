@@ -61,7 +61,7 @@ other_first byte b bytes h = grind (arith, nat_tests)
 same_first : (byte : ℕ) (bytes : List ℕ) → cond (byte == byte) (Some bytes) None ≡ Some bytes
 same_first byte bytes = grind (arith, nat_tests)
 
--- what is left where a first byte is taken off
+-- what is left if a first byte is taken off
 pub behind-strips : (byte : ℕ) (text : List ℕ) (rest : Option (Bor (List ℕ)))
     → MatchOption rest ((bytes : List ℕ) → text ≢ byte ∷ bytes) (λ x. text ≡ byte ∷ x.now) → option_copied rest
     ≡ behind byte text

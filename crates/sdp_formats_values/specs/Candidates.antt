@@ -20,7 +20,7 @@ with_rest p = (p.0, option_copied p.1)
 abbrev pub related_rest : Option RelatedAddress × Option (Bor (List ℕ)) → Option RelatedAddress × Option (List ℕ)
 related_rest p = (p.0, option_copied p.1)
 
--- An address, `rport ` and a port, and what is left behind a blank.
+-- An address, `rport ` and a port, and what is left after a blank.
 unfoldable pub related_in : List ℕ → Option (RelatedAddress × Option (List ℕ))
 related_in t = do
   cut ← split_first 32 t
@@ -29,7 +29,7 @@ related_in t = do
   port ← number_below (2 ^ 16) (halves 32 rest).0
   Some (record { addr = addr; port = port }, (halves 32 rest).1)
 
--- The address that a candidate was derived from, where the text begins with `raddr `.
+-- The address that a candidate was derived from, if the text begins with `raddr `.
 abbrev pub related_behind : List ℕ → Option (List ℕ) → Option (Option RelatedAddress × Option (List ℕ))
 related_behind t None = Some (None, Some t)
 related_behind t (Some v) = related_in v >>= λ r. Some (Some r.0, r.1)
@@ -76,7 +76,7 @@ placed p = (p.0.now, p.1, p.2.now)
 abbrev pub carried : Protocol × ℕ × Bor (List ℕ) → Protocol × ℕ × List ℕ
 carried p = (p.0, p.1, p.2.now)
 
--- The foundation, the component and what stands behind them.
+-- The foundation, the component and what follows them.
 unfoldable pub candidate_base : List ℕ → Option (List ℕ × ℕ × List ℕ)
 candidate_base t = do
   first ← split_first 32 t
@@ -85,7 +85,7 @@ candidate_base t = do
   component ← number_below (2 ^ 16) second.0
   Some (foundation, component, second.1)
 
--- The protocol, the priority and what stands behind them.
+-- The protocol, the priority and what follows them.
 unfoldable pub candidate_carrier : List ℕ → Option (Protocol × ℕ × List ℕ)
 candidate_carrier t = do
   first ← split_first 32 t
@@ -94,7 +94,7 @@ candidate_carrier t = do
   priority ← number_below (2 ^ 32) second.0
   Some (protocol, priority, second.1)
 
--- The address, the port and what stands behind `typ `.
+-- The address, the port and what follows `typ `.
 unfoldable pub candidate_place : List ℕ → Option (List ℕ × ℕ × List ℕ)
 candidate_place t = do
   first ← split_first 32 t

@@ -49,7 +49,7 @@ with_modes (text ∷ texts) (Some modes) = with_modes texts (with_mode (numeral_
 abbrev pub modes_of : List ℕ → Option ℕ
 modes_of text = with_modes (parts 44 text) (Some 0)
 
--- What stands behind this first byte.
+-- What follows this first byte.
 abbrev pub behind : ℕ → List ℕ → Option (List ℕ)
 behind byte [] = None
 behind byte (b ∷ bytes) = if b == byte then Some bytes else None

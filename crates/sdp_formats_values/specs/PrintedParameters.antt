@@ -61,7 +61,7 @@ modes_left false texts = each_behind (codes ",") texts
 abbrev pub six_digits : ℕ → List ℕ
 six_digits number = padded_integral (format_spec 32 0 4 6 (2 ^ 64 - 1)) false [] (digits 16 false number)
 
--- What stands before a flag or a byte.
+-- What is before a flag or a byte.
 abbrev pub name_before : FormatParam → List ℕ
 name_before (UseInbandFec v) = codes "useinbandfec="
 name_before (UseDtx v) = codes "usedtx="

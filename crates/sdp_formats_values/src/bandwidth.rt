@@ -20,7 +20,7 @@ impl Bandwidth {
     ///
     /// # Errors
     ///
-    /// `AllocError` where memory runs out.
+    /// `AllocError` if memory runs out.
     pub fn clone(&self, alloc: Global) -> Result<Bandwidth, AllocError>
         ensures { IfOk result (λ copy. copy ≡ self.now) }
     {
@@ -30,11 +30,11 @@ impl Bandwidth {
         })
     }
 
-    /// The same value again, where there is one.
+    /// The same value again, if there is one.
     ///
     /// # Errors
     ///
-    /// `AllocError` where memory runs out.
+    /// `AllocError` if memory runs out.
     pub fn if_any(
         alloc: Global,
         bandwidth: &Option<Bandwidth>,

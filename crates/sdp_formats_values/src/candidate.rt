@@ -220,7 +220,7 @@ impl fmt::Display for RelatedAddress {
     }
 }
 
-// What stands behind a candidate's kind, each part where it is told.
+// What follows a candidate's kind, each part where it is told.
 #[derive(Drop)]
 struct CandidateParts<'a>(&'a Candidate);
 
@@ -258,11 +258,11 @@ impl fmt::Display for Candidate {
 }
 
 impl Candidate {
-    /// It as it stands behind `a=`.
+    /// It as it follows `a=`.
     ///
     /// # Errors
     ///
-    /// `AllocError` where memory runs out.
+    /// `AllocError` if memory runs out.
     pub fn to_sdp_string(&self, alloc: Global) -> Result<String, AllocError>
         ensures { IfOk result (λ text. string_bytes text ≡ candidate_text self.now) }
     {

@@ -18,7 +18,7 @@ use sdp_formats_grammar::{
 };
 use std::alloc::Global;
 
-// The fields behind a candidate's kind.
+// The fields after a candidate's kind.
 #[derive(Drop)]
 struct Fields {
     related: Option<RelatedAddress>,
@@ -26,7 +26,7 @@ struct Fields {
     ufrag: Option<Text>,
 }
 
-/// The address and port behind `raddr `, and what is left behind a blank.
+/// The address and port after `raddr `, and what is left after a blank.
 #[tactic(auto, unfolding(crate::specs::Candidates::related_in))]
 fn related_in(alloc: Global, text: &str) -> Result<(RelatedAddress, Option<&str>), Refusal>
     ensures { GivesBy with_rest result (related_in text.now) }
@@ -87,7 +87,7 @@ fn ufrag_field(text: Option<&str>) -> Result<Option<&str>, Refusal>
     Ok(ufrag)
 }
 
-/// What the fields behind a candidate's kind say.
+/// What the fields after a candidate's kind say.
 #[tactic(auto, unfolding(crate::specs::Candidates::candidate_fields))]
 fn candidate_fields(alloc: Global, tail: Option<&str>) -> Result<Fields, Refusal>
     ensures { Gives result (candidate_fields (option_copied tail.entry)) }
@@ -103,7 +103,7 @@ fn candidate_fields(alloc: Global, tail: Option<&str>) -> Result<Fields, Refusal
     })
 }
 
-/// The foundation, the component and what stands behind them.
+/// The foundation, the component and what follows them.
 #[tactic(auto, unfolding(crate::specs::Candidates::candidate_base))]
 fn candidate_base(text: &str) -> Result<(&str, u16, &str), Refusal>
     ensures { GivesBy placed result (candidate_base text.now) }
@@ -115,7 +115,7 @@ fn candidate_base(text: &str) -> Result<(&str, u16, &str), Refusal>
     Ok((foundation, component, rest))
 }
 
-/// The protocol, the priority and what stands behind them.
+/// The protocol, the priority and what follows them.
 #[tactic(auto, unfolding(crate::specs::Candidates::candidate_carrier))]
 fn candidate_carrier(text: &str) -> Result<(Protocol, u32, &str), Refusal>
     ensures { GivesBy carried result (candidate_carrier text.now) }
@@ -127,7 +127,7 @@ fn candidate_carrier(text: &str) -> Result<(Protocol, u32, &str), Refusal>
     Ok((protocol, priority, rest))
 }
 
-/// The address, the port and what stands behind `typ `.
+/// The address, the port and what follows `typ `.
 #[tactic(auto, unfolding(crate::specs::Candidates::candidate_place))]
 fn candidate_place(text: &str) -> Result<(&str, u16, &str), Refusal>
     ensures { GivesBy placed result (candidate_place text.now) }
@@ -140,11 +140,11 @@ fn candidate_place(text: &str) -> Result<(&str, u16, &str), Refusal>
     Ok((address, port, rest))
 }
 
-/// What stands behind `a=candidate:` (RFC 8839 5.1).
+/// What follows `a=candidate:` (RFC 8839 5.1).
 ///
 /// # Errors
 ///
-/// `Unfit` where it is no candidate, `Memory` where memory runs out.
+/// `Unfit` if it is no candidate, `Memory` if memory runs out.
 #[tactic(auto, unfolding(crate::specs::Candidates::candidate))]
 pub fn candidate_of(alloc: Global, value: &str) -> Result<Candidate, Refusal>
     ensures { Gives result (candidate value.now) }

@@ -13,7 +13,7 @@ impl RelatedAddress {
     ///
     /// # Errors
     ///
-    /// `AllocError` where memory runs out.
+    /// `AllocError` if memory runs out.
     pub fn clone(&self, alloc: Global) -> Result<RelatedAddress, AllocError>
         ensures { IfOk result (λ copy. copy ≡ self.now) }
     {
@@ -23,11 +23,11 @@ impl RelatedAddress {
         })
     }
 
-    /// The same value again, where there is one.
+    /// The same value again, if there is one.
     ///
     /// # Errors
     ///
-    /// `AllocError` where memory runs out.
+    /// `AllocError` if memory runs out.
     pub fn if_any(
         alloc: Global,
         related: &Option<RelatedAddress>,
@@ -46,7 +46,7 @@ impl Candidate {
     ///
     /// # Errors
     ///
-    /// `AllocError` where memory runs out.
+    /// `AllocError` if memory runs out.
     pub fn clone(&self, alloc: Global) -> Result<Candidate, AllocError>
         ensures { IfOk result (λ copy. copy ≡ self.now) }
     {
@@ -68,7 +68,7 @@ impl Candidate {
     ///
     /// # Errors
     ///
-    /// `AllocError` where memory runs out.
+    /// `AllocError` if memory runs out.
     pub fn clone_all(
         alloc: Global,
         candidates: &[Candidate],
@@ -88,7 +88,7 @@ impl IceCreds {
     ///
     /// # Errors
     ///
-    /// `AllocError` where memory runs out.
+    /// `AllocError` if memory runs out.
     pub fn clone(&self, alloc: Global) -> Result<IceCreds, AllocError>
         ensures { IfOk result (λ copy. copy ≡ self.now) }
     {
@@ -98,11 +98,11 @@ impl IceCreds {
         })
     }
 
-    /// The same value again, where there is one.
+    /// The same value again, if there is one.
     ///
     /// # Errors
     ///
-    /// `AllocError` where memory runs out.
+    /// `AllocError` if memory runs out.
     pub fn if_any(alloc: Global, creds: &Option<IceCreds>) -> Result<Option<IceCreds>, AllocError>
         ensures { IfOk result (λ copy. copy ≡ creds.now) }
     {
@@ -118,7 +118,7 @@ impl RestrictionId {
     ///
     /// # Errors
     ///
-    /// `AllocError` where memory runs out.
+    /// `AllocError` if memory runs out.
     pub fn clone(&self, alloc: Global) -> Result<RestrictionId, AllocError>
         ensures { IfOk result (λ copy. copy ≡ self.now) }
     {
@@ -131,7 +131,7 @@ impl SimulcastLayer {
     ///
     /// # Errors
     ///
-    /// `AllocError` where memory runs out.
+    /// `AllocError` if memory runs out.
     pub fn clone(&self, alloc: Global) -> Result<SimulcastLayer, AllocError>
         ensures { IfOk result (λ copy. copy ≡ self.now) }
     {
@@ -145,7 +145,7 @@ impl SimulcastLayer {
     ///
     /// # Errors
     ///
-    /// `AllocError` where memory runs out.
+    /// `AllocError` if memory runs out.
     pub fn clone_all(
         alloc: Global,
         layers: &[SimulcastLayer],
@@ -165,7 +165,7 @@ impl SimulcastGroups {
     ///
     /// # Errors
     ///
-    /// `AllocError` where memory runs out.
+    /// `AllocError` if memory runs out.
     pub fn clone(&self, alloc: Global) -> Result<SimulcastGroups, AllocError>
         ensures { IfOk result (λ copy. copy ≡ self.now) }
     {
@@ -178,7 +178,7 @@ impl Simulcast {
     ///
     /// # Errors
     ///
-    /// `AllocError` where memory runs out.
+    /// `AllocError` if memory runs out.
     pub fn clone(&self, alloc: Global) -> Result<Simulcast, AllocError>
         ensures { IfOk result (λ copy. copy ≡ self.now) }
     {
@@ -195,7 +195,7 @@ impl Msid {
     ///
     /// # Errors
     ///
-    /// `AllocError` where memory runs out.
+    /// `AllocError` if memory runs out.
     pub fn clone(&self, alloc: Global) -> Result<Msid, AllocError>
         ensures { IfOk result (λ copy. copy ≡ self.now) }
     {
@@ -211,7 +211,7 @@ impl SsrcInfo {
     ///
     /// # Errors
     ///
-    /// `AllocError` where memory runs out.
+    /// `AllocError` if memory runs out.
     pub fn clone(&self, alloc: Global) -> Result<SsrcInfo, AllocError>
         ensures { IfOk result (λ copy. copy ≡ self.now) }
     {

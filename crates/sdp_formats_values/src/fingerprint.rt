@@ -37,7 +37,7 @@ impl Fingerprint {
     ///
     /// # Errors
     ///
-    /// `AllocError` where memory runs out.
+    /// `AllocError` if memory runs out.
     pub fn clone(&self, alloc: Global) -> Result<Fingerprint, AllocError>
         ensures { IfOk result (λ copy. copy ≡ self.now) }
     {
@@ -47,11 +47,11 @@ impl Fingerprint {
         })
     }
 
-    /// The same value again, where there is one.
+    /// The same value again, if there is one.
     ///
     /// # Errors
     ///
-    /// `AllocError` where memory runs out.
+    /// `AllocError` if memory runs out.
     pub fn if_any(
         alloc: Global,
         print: &Option<Fingerprint>,

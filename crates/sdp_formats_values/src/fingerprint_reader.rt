@@ -64,7 +64,7 @@ impl Fingerprint {
     ///
     /// # Errors
     ///
-    /// `Malformed` where the text is no such text, `Memory` where memory runs out.
+    /// `Malformed` if the text is no such text, `Memory` if memory runs out.
     pub fn from_str(alloc: Global, text: &str) -> Result<Fingerprint, FingerprintError>
         ensures { IsFromText result (print_in_text.reads text.now) }
     {

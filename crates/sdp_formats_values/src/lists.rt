@@ -9,7 +9,7 @@ use sdp_formats_grammar::{Joined, Text};
 use std::fmt;
 use std::fmt::Display;
 
-/// Writes a line with a value behind its name.
+/// Writes a line with a value after its name.
 pub fn write_value<W: fmt::Write, T: fmt::Display>(
     f: &mut fmt::Formatter<W>,
     name: &str,
@@ -20,7 +20,7 @@ pub fn write_value<W: fmt::Write, T: fmt::Display>(
     write!(f, "{name}{value}\r\n")
 }
 
-/// Writes a line with two values behind its name, a blank between them.
+/// Writes a line with two values after its name, a blank between them.
 pub fn write_both<W: fmt::Write, A: fmt::Display, B: fmt::Display>(
     f: &mut fmt::Formatter<W>,
     name: &str,
@@ -48,7 +48,7 @@ impl fmt::Display for Restrictions<'_> {
     }
 }
 
-/// The restrictions of an `a=rid` line behind its payload types: whether there are payload types, and the restrictions.
+/// The restrictions of an `a=rid` line after its payload types: whether there are payload types, and the restrictions.
 #[derive(Drop)]
 pub struct RidRestrictions<'a>(pub bool, pub &'a [Pair]);
 

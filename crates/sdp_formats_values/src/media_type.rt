@@ -54,7 +54,7 @@ impl MediaType {
     ///
     /// # Errors
     ///
-    /// `AllocError` where memory runs out.
+    /// `AllocError` if memory runs out.
     pub fn clone(&self, alloc: Global) -> Result<MediaType, AllocError>
         ensures { IfOk result (λ copy. copy ≡ self.now) }
     {

@@ -30,7 +30,7 @@ impl Pair {
     ///
     /// # Errors
     ///
-    /// `AllocError` where memory runs out.
+    /// `AllocError` if memory runs out.
     pub fn clone(&self, alloc: Global) -> Result<Pair, AllocError>
         ensures { IfOk result (λ copy. copy ≡ self.now) }
     {
@@ -44,7 +44,7 @@ impl Pair {
     ///
     /// # Errors
     ///
-    /// `AllocError` where memory runs out.
+    /// `AllocError` if memory runs out.
     pub fn clone_all(alloc: Global, pairs: &[Pair]) -> Result<Listed<Pair>, AllocError>
         ensures { IfOk result (λ copies. copies ≡ pairs.now) }
     {
@@ -55,11 +55,11 @@ impl Pair {
         Ok(Listed::of(copies))
     }
 
-    /// The same values again, where there are some.
+    /// The same values again, if there are some.
     ///
     /// # Errors
     ///
-    /// `AllocError` where memory runs out.
+    /// `AllocError` if memory runs out.
     pub fn if_any(
         alloc: Global,
         pairs: &Option<Listed<Pair>>,

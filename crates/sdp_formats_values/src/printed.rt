@@ -38,7 +38,7 @@ impl fmt::Display for Levels {
     }
 }
 
-// A mode, behind a comma where it isn't the first.
+// A mode, after a comma if it isn't the first.
 #[derive(Drop)]
 struct Mode(bool, u8);
 
@@ -83,7 +83,7 @@ impl fmt::Display for Modes {
     }
 }
 
-/// What stands before the value of a parameter whose value is a flag or a byte; nothing for another.
+/// What is before the value of a parameter whose value is a flag or a byte; nothing for another.
 fn name_before(param: &FormatParam) -> &'static str
     ensures { result.now ≡ name_before param.now }
 {

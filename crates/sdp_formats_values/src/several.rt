@@ -141,13 +141,13 @@ fn level_params(alloc: Global, pairs: &[Pair]) -> Result<Vec<FormatParam>, Alloc
 }
 
 impl FormatParam {
-    /// The parameters of keys and values, in order. Where one gives a tier or level of H.265 or H.266, each key counts
+    /// The parameters of keys and values, in order. If one gives a tier or level of H.265 or H.266, each key counts
     /// once, at its first place with its last value, and `profile-id`, `tier-flag` and `level-id` are one parameter in
     /// front of the others, if they mean one (RFC 7798 7.1, RFC 9328 7.2).
     ///
     /// # Errors
     ///
-    /// `AllocError` where memory runs out.
+    /// `AllocError` if memory runs out.
     pub fn parse_pairs(alloc: Global, pairs: &[Pair]) -> Result<Listed<FormatParam>, AllocError>
         ensures { IfOk result (λ params. params ≡ params_of pairs.now) }
     {

@@ -46,11 +46,11 @@ impl RestrictionId {
         RestrictionId(Text::of(String::new(alloc)), true)
     }
 
-    /// It as it stands in an `a=simulcast` line: behind a tilde where it isn't active at first (RFC 8853 5.1).
+    /// It as it is in an `a=simulcast` line: after a tilde if it isn't active at first (RFC 8853 5.1).
     ///
     /// # Errors
     ///
-    /// `AllocError` where memory runs out.
+    /// `AllocError` if memory runs out.
     pub fn to_sdp(&self, alloc: Global) -> Result<String, AllocError>
         ensures { IfOk result (λ text. string_bytes text ≡ name_text self.now) }
     {
@@ -178,7 +178,7 @@ impl Simulcast {
     }
 }
 
-/// The whole line with its end; nothing where it was made up or names no layer.
+/// The whole line with its end; nothing if it was made up or names no layer.
 impl fmt::Display for Simulcast {
     ghost use Rattle.std.specs.Prelude.{Some};
     ghost use Rattle.sdp_formats_values.specs.PrintedValues.{simulcast_text};

@@ -4,7 +4,7 @@ use sdp_formats::{Direction, MediaAttribute, MediaLine, Sdp, Session, SessionAtt
 use std::alloc::{AllocError, Global};
 use words_and_replies::ReplyText;
 
-/// `attributes NAME`: each attribute of the session and of the sections as it is printed, with `unused` in front where
+/// `attributes NAME`: each attribute of the session and of the sections as it is printed, with `unused` in front if
 /// it is of no known kind, and a section's line `m=` in front of its attributes.
 pub(crate) fn put_attributes(alloc: Global, sdp: &Sdp, reply: &mut ReplyText) {
     put_session(alloc, &sdp.session, reply);
@@ -36,12 +36,12 @@ fn put_section(alloc: Global, section: &MediaLine, reply: &mut ReplyText) {
     }
 }
 
-/// What stands in front of an attribute, of a known kind or not.
+/// What is in front of an attribute, of a known kind or not.
 fn indent(is_unused: bool) -> &'static str {
     if is_unused { "\n    unused " } else { "\n    " }
 }
 
-/// Writes an attribute without its line end behind a text, or a dash for one of nothing.
+/// Writes an attribute without its line end after a text, or a dash for one of nothing.
 fn put_line(before: &str, line: Result<String, AllocError>, reply: &mut ReplyText) {
     reply.put(before);
     match line {
@@ -66,7 +66,7 @@ pub(crate) fn put_directed(alloc: Global, sdp: Sdp, direction: Direction, reply:
     }
 }
 
-/// Gives a section another direction, where it gives one.
+/// Gives a section another direction, if it gives one.
 fn turn(alloc: Global, section: &mut MediaLine, direction: Direction) {
     if section.has_direction() {
         section.set_direction(alloc, direction);

@@ -36,7 +36,7 @@ pub(crate) fn answer(rt: &HostRuntime, rows: &mut Rows, line: &str) -> Result<St
     reply.finish()
 }
 
-/// Writes what a command on rows gives, or the word `fault` where it isn't understood.
+/// Writes what a command on rows gives, or the word `fault` if it isn't understood.
 fn put_of_rows(
     alloc: Global,
     rows: &mut Rows,

@@ -8,7 +8,7 @@ use std::alloc::Global;
 use words_and_replies::ReplyText;
 
 /// `enable CODEC RED` and `disable CODEC RED`: the default rows of a codec in place of all that it has, or none; RED is
-/// the word `red` where audio is to have a RED type.
+/// the word `red` if audio is to have a RED type.
 pub(crate) fn enable(config: &mut CodecConfig, enabled: bool, words: &[&str]) -> Change {
     let [codec, red, ..] = words else {
         return None;
@@ -31,7 +31,7 @@ pub(crate) fn enable(config: &mut CodecConfig, enabled: bool, words: &[&str]) ->
     })
 }
 
-/// `video CODEC TYPE RESEND ..`: a row behind the others, of H.264 in packetization mode 1 or another and of a
+/// `video CODEC TYPE RESEND ..`: a row after the others, of H.264 in packetization mode 1 or another and of a
 /// profile-level-id in hexadecimal, or of H.265 or H.266 of a profile, tier and level by their numbers.
 pub(crate) fn add_video(config: &mut CodecConfig, words: &[&str]) -> Change {
     let [codec, pt, resend, numbers @ ..] = words else {
@@ -72,7 +72,7 @@ fn level_of(numbers: &[&str]) -> Option<(u8, u8, u8)> {
     ))
 }
 
-/// `distances N ..`: sets the distances of redundancy, where some are given, and tells those in force.
+/// `distances N ..`: sets the distances of redundancy, if some are given, and tells those in force.
 pub(crate) fn put_distances(
     alloc: Global,
     config: &mut CodecConfig,

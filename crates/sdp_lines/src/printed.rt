@@ -18,7 +18,7 @@ pub(crate) fn put_printed(alloc: Global, text: &str, reply: &mut ReplyText) {
     }
 }
 
-/// How many lines are printed as they stood, and whether the printed text is read whole, and printed as it stands.
+/// How many lines are printed as they stood, and whether the printed text is read whole, and printed as it is.
 fn put_kept(alloc: Global, text: &str, sdp: &Sdp, reply: &mut ReplyText) {
     match sdp.to_sdp_string(alloc) {
         Ok(printed) => {
@@ -53,7 +53,7 @@ fn has_line(text: &str, line: &str) -> bool {
     false
 }
 
-/// Whether a printed text is read whole, and printed as it stands. One of a section that isn't printable may be none.
+/// Whether a printed text is read whole, and printed as it is. One of a section that isn't printable may be none.
 fn put_likeness(alloc: Global, printed: &str, reply: &mut ReplyText) {
     match is_read_alike(alloc, printed) {
         Ok(true) => reply.put("alike"),

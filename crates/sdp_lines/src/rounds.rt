@@ -17,7 +17,7 @@ fn put_row(alloc: Global, row: &PayloadParams, reply: &mut ReplyText) {
     reply.put_printed(" ", spec.format.to_string(alloc));
 }
 
-/// Writes the rows, each behind a bar.
+/// Writes the rows, each after a bar.
 fn put_rows(alloc: Global, rows: &[PayloadParams], reply: &mut ReplyText) {
     for row in rows {
         put_row(alloc, row, reply);

@@ -7,7 +7,7 @@ use sdp_formats::{CodecConfig, Direction};
 use std::alloc::{AllocError, Global};
 use words_and_replies::ReplyText;
 
-/// Whether there was memory for a change of rows; none where the line isn't understood.
+/// Whether there was memory for a change of rows; none if the line isn't understood.
 pub(crate) type Change = Option<Result<(), AllocError>>;
 
 /// The rows that a round is run on: those of an end, and those of the other end.
@@ -27,7 +27,7 @@ impl Rows {
     }
 }
 
-/// Writes what a command gives with the words behind it; none where the line isn't understood.
+/// Writes what a command gives with the words after it; none if the line isn't understood.
 pub(crate) fn put_rows(
     alloc: Global,
     rows: &mut Rows,
@@ -47,7 +47,7 @@ pub(crate) fn put_rows(
     }
 }
 
-/// Writes that a change was made, where there was memory for it.
+/// Writes that a change was made, if there was memory for it.
 fn put_change(change: Result<(), AllocError>, reply: &mut ReplyText) {
     match change {
         Ok(()) => reply.put("ok"),
@@ -55,7 +55,7 @@ fn put_change(change: Result<(), AllocError>, reply: &mut ReplyText) {
     }
 }
 
-/// Rows put behind the others or in place of some, or none left.
+/// Rows put after the others or in place of some, or none left.
 fn change(alloc: Global, rows: &mut Rows, command: &str, words: &[&str]) -> Change {
     match command {
         "own" | "locked" | "remote" => return push(rows, command, words),
@@ -74,7 +74,7 @@ fn change(alloc: Global, rows: &mut Rows, command: &str, words: &[&str]) -> Chan
     Some(Ok(()))
 }
 
-/// `own ROW`, `locked ROW` and `remote ROW`: a row behind the own ones, locked or not, or behind the other end's.
+/// `own ROW`, `locked ROW` and `remote ROW`: a row after the own ones, locked or not, or after the other end's.
 fn push(rows: &mut Rows, command: &str, words: &[&str]) -> Change {
     let mut row = row_of(words)?;
     if command == "locked" {
@@ -87,7 +87,7 @@ fn push(rows: &mut Rows, command: &str, words: &[&str]) -> Change {
     })
 }
 
-/// `add TYPE SPEC`: a new row of a codec behind the others.
+/// `add TYPE SPEC`: a new row of a codec after the others.
 fn add(config: &mut CodecConfig, words: &[&str]) -> Change {
     let [pt, spec @ ..] = words else {
         return None;

@@ -40,7 +40,7 @@ fn put_session(alloc: Global, session: &Session, reply: &mut ReplyText) {
     put_count("\n  session: ", session.ice_candidates(alloc), reply);
 }
 
-/// Writes how many candidates there are, where there are some.
+/// Writes how many candidates there are, if there are some.
 fn put_count(before: &str, candidates: Result<Vec<&Candidate>, AllocError>, reply: &mut ReplyText) {
     match candidates {
         Ok(candidates) => {
@@ -65,7 +65,7 @@ fn put_section(alloc: Global, section: &MediaLine, reply: &mut ReplyText) {
     }
 }
 
-/// The layers of one way of a simulcast, those that aren't active at first behind a tilde.
+/// The layers of one way of a simulcast, those that aren't active at first after a tilde.
 fn put_layers(alloc: Global, before: &str, layers: &[SimulcastLayer], reply: &mut ReplyText) {
     for layer in layers {
         reply.put_printed_or_dash(before, layer.restriction_id.to_sdp(alloc));

@@ -48,7 +48,7 @@ fn put_flags(row: &PayloadParams, reply: &mut ReplyText) {
     reply.put_flag(" ", "remb", row.fb_remb());
 }
 
-/// `equal LOCK ROW LOCK ROW`: whether two rows are equal, where LOCK is `locked` or `open`.
+/// `equal LOCK ROW LOCK ROW`: whether two rows are equal, if LOCK is `locked` or `open`.
 pub(crate) fn put_equality(words: &[&str], reply: &mut ReplyText) -> Option<()> {
     let one = locked_or_open(words)?;
     let other = locked_or_open(words.get(9..)?)?;

@@ -42,7 +42,7 @@ fn put_counts(session: &Session, left: usize, reply: &mut ReplyText) {
     reply.put(" bytes left");
 }
 
-/// What stands in the text besides, section by section and as a whole.
+/// What is in the text besides, section by section and as a whole.
 fn put_parts(alloc: Global, sdp: &Sdp, reply: &mut ReplyText) {
     for section in sdp.media_lines.as_slice() {
         put_section(section, reply);
@@ -125,7 +125,7 @@ pub(crate) fn put_prefixes(alloc: Global, text: &str, reply: &mut ReplyText) {
     reply.put(" are none");
 }
 
-/// `session NAME`: what stands before the first section: number, bandwidth, attributes, and bytes behind it.
+/// `session NAME`: what is before the first section: number, bandwidth, attributes, and bytes after it.
 pub(crate) fn put_session(alloc: Global, text: &str, reply: &mut ReplyText) {
     match session_parser(alloc, text) {
         Ok((session, rest)) => put_header(&session, rest.len(), reply),

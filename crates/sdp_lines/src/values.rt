@@ -8,7 +8,7 @@ use std::alloc::Global;
 use std::hash::{DefaultHasher, Hash, Hasher};
 use words_and_replies::ReplyText;
 
-/// `candidate TEXT`: the candidate that stands behind `candidate:`, printed, and what its accessors return.
+/// `candidate TEXT`: the candidate that follows `candidate:`, printed, and what its accessors return.
 pub(crate) fn put_candidate(alloc: Global, text: &str, reply: &mut ReplyText) {
     match candidate_of(alloc, text) {
         Ok(candidate) => put_parts(alloc, &candidate, reply),
@@ -75,7 +75,7 @@ pub(crate) fn put_format(alloc: Global, text: &str, reply: &mut ReplyText) {
     reply.put_printed("", FormatParams::parse_line(text).to_string(alloc));
 }
 
-/// `parameters TEXT`: the parameters of the format that a text gives, one by one, or a dash where there are none.
+/// `parameters TEXT`: the parameters of the format that a text gives, one by one, or a dash if there are none.
 pub(crate) fn put_parameters(alloc: Global, text: &str, reply: &mut ReplyText) {
     match FormatParams::parse_line(text).to_format_param(alloc) {
         Ok(params) if params.is_empty() => reply.put("-"),

@@ -1,4 +1,4 @@
-//! What the words of a line say: none where one is missing, or isn't what has to stand there.
+//! What the words of a line say: none if one is missing, or isn't what has to be there.
 
 use sdp_formats::{Codec, CodecSpec, FormatParams, Frequency, PayloadParams, Pt};
 

@@ -3,7 +3,7 @@
 use rtp_wire::{SeqNo, SeqNoWindow, extend_u7, extend_u8, extend_u15, extend_u16, extend_u32};
 use words_and_replies::CommandLine;
 
-/// `extend BITS PREVIOUS LOW`: a number of few bits, widened by the one before it, or by none where a dash stands.
+/// `extend BITS PREVIOUS LOW`: a number of few bits, widened by the one before it, or by none if a dash is.
 pub(crate) fn extended(line: &mut CommandLine<'_>) {
     let (bits, previous, low) = (line.word(), line.word(), line.number::<u32>());
     let previous = match previous {

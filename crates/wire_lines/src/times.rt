@@ -40,7 +40,7 @@ pub(crate) fn comparison(line: &mut CommandLine<'_>) {
     })
 }
 
-/// `minus TIME TIME`: the difference, where there is one.
+/// `minus TIME TIME`: the difference, if there is one.
 pub(crate) fn difference(line: &mut CommandLine<'_>) {
     let (first, second) = (time_of(line), time_of(line));
     match first.checked_sub(second) {

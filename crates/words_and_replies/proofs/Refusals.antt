@@ -2,7 +2,7 @@
 use Rattle.std.proofs.Common.{ℕ, List, Option, ◌∙◌, ap}
 use Rattle.words_and_replies.specs.Lines.{LineState, Refuses}
 
--- a refusal stays, whatever is refused behind it
+-- a refusal stays, whatever is refused after it
 pub stays : (old between new : LineState) (reason other : Option (List ℕ)) → Refuses old reason between
     → Refuses between other new → Refuses old reason new
 stays old between new reason other first later = (

@@ -9,7 +9,7 @@ starred : (front : List ℕ) → without_stars (front ++ 42 ∷ []) ≡ without_
 starred [] = refl
 starred (b ∷ front) = ap (before_left b) (starred front)
 
--- a word that ends in a star has what stands before it
+-- a word that ends in a star has what is before it
 pub without_stars-starred : (word front : List ℕ) → word ≡ front ++ 42 ∷ [] → without_stars front ≡ without_stars word
 without_stars-starred word front h = sym (starred front) ∙ ap without_stars (sym h)
 

@@ -15,7 +15,7 @@ before_sign sign word = before_first (λ b. b == sign) word
 abbrev pub behind_sign : ℕ → List ℕ → List ℕ
 behind_sign sign word = after_first (λ b. b == sign) word
 
--- What stands between single plus signs.
+-- What is between single plus signs.
 abbrev pub plus_parts : List ℕ → List (List ℕ)
 plus_parts word = slice_split (λ b. b == 43) word
 

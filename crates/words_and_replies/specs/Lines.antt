@@ -18,7 +18,7 @@ line_state rest answer is_refused = record { rest = rest; answer = answer; is_re
 abbrev pub unread : List ℕ → LineState
 unread whole = line_state whole [] false
 
--- The next word: what stands before the first blank.
+-- The next word: what is before the first blank.
 abbrev pub word_of : List ℕ → List ℕ
 word_of rest = before_sign 32 rest
 
@@ -35,7 +35,7 @@ abbrev pub is_comment : List ℕ → Bool
 is_comment [] = true
 is_comment (c ∷ more) = c == 35
 
--- The answer is the word `fault` and the reason, or nothing where memory for it ran out.
+-- The answer is the word `fault` and the reason, or nothing if memory for it ran out.
 abbrev pub IsFault : Option (List ℕ) → List ℕ → Type 0
 IsFault reason answer = IfSome (Some (codes "fault ") ++? reason) (λ text. (answer ≡ text) ⊎ (answer ≡ []))
 

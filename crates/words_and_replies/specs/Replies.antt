@@ -25,6 +25,6 @@ Ends (Some _) text new = Becomes text new
 abbrev pub or_dash : List ℕ → List ℕ
 or_dash text = if length text == 0 then codes "-" else text
 
--- A flag's name, or a dash where it is off.
+-- A flag's name, or a dash if it is off.
 abbrev pub flag : List ℕ → Bool → List ℕ
 flag name is_on = if is_on then name else codes "-"

@@ -2,7 +2,7 @@
 use Rattle.std.specs.Prelude.{ℕ, ◌==◌, List}
 use Rattle.std.specs.List.{before_first, after_first}
 
--- What stands before the first blank, or all where there is none.
+-- What is before the first blank, or all if there is none.
 abbrev pub first_word : List ℕ → List ℕ
 first_word text = before_first (λ b. b == 32) text
 

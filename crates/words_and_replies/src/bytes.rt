@@ -46,7 +46,7 @@ fn unstarred(word: &str) -> &str
     left
 }
 
-/// What stands before the star at the end of a word.
+/// What is before the star at the end of a word.
 fn before_star(word: &str) -> Option<&str>
     ensures star { IfSome result (λ front. without_stars front.now ≡ without_stars word.now) }
     ensures shorter { IfSome result (λ front. length front.now < length word.now) }
@@ -58,7 +58,7 @@ fn before_star(word: &str) -> Option<&str>
     }
 }
 
-/// What stands before the first plus sign, and what stands behind it.
+/// What is before the first plus sign, and what follows it.
 fn split_plus(text: &str) -> (&str, Option<&str>)
     ensures { plus_parts text.now ≡ result.0.now ∷ parts_in (option_copied result.1) }
 {
@@ -83,7 +83,7 @@ fn part_bytes(alloc: Global, part: &str) -> Result<Option<Vec<u8>>, AllocError>
     }
 }
 
-/// The digits of a part, and how often they stand there, if that is a number.
+/// The digits of a part, and how often they are there, if that is a number.
 fn digits_and_count(part: &str) -> (&str, Option<u32>)
     ensures digits { result.0.now ≡ before_sign 58 part.now }
     ensures count { result.1 ≡ count_of (count_word part.now) }

@@ -44,7 +44,7 @@ impl ReplyText {
         }
     }
 
-    /// Writes a text, or a dash where it is empty.
+    /// Writes a text, or a dash if it is empty.
     pub fn put_or_dash(&mut self, text: &str)
         ensures { Adds self.old (Some (or_dash text.now)) self.new }
     {
@@ -88,7 +88,7 @@ impl ReplyText {
         }
     }
 
-    /// Writes what was printed behind a text, where there was memory to print it.
+    /// Writes what was printed after a text, if there was memory to print it.
     pub fn put_printed(&mut self, before: &str, printed: Result<String, AllocError>)
         ensures printed { IfOk printed (λ t. Adds self.old (Some before.now ++? Some (string_bytes t)) self.new) }
         ensures not_printed { IfErr printed (λ _. self.new ≡ None) }
@@ -99,7 +99,7 @@ impl ReplyText {
         }
     }
 
-    /// Writes what was printed behind a text, or a dash where it is empty, where there was memory to print it.
+    /// Writes what was printed after a text, or a dash if it is empty, if there was memory to print it.
     pub fn put_printed_or_dash(&mut self, before: &str, printed: Result<String, AllocError>)
         ensures printed { IfOk printed (λ t. Adds self.old (Some before.now ++? Some (or_dash (string_bytes t)))
             self.new) }
@@ -130,7 +130,7 @@ impl ReplyText {
     ///
     /// # Errors
     ///
-    /// `AllocError` where memory ran out for some of it.
+    /// `AllocError` if memory ran out for some of it.
     pub fn finish(self) -> Result<String, AllocError>
         ensures written { IfOk result (λ text. self ≡ Some (string_bytes text)) }
         ensures not_written { IfErr result (λ _. self ≡ None) }

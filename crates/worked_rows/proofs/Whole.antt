@@ -1,4 +1,4 @@
--- Samples that one packet has room for are sent whole, where packets are pieces of samples.
+-- Samples that one packet has room for are sent whole, if packets are pieces of samples.
 use Rattle.std.proofs.Common.{◌≡◌, ℕ, ◌<◌, ◌≤◌, refl, sym, ◌∙◌, ap, ap₂, arith, Bool, true, false, List, [], ◌∷◌}
 use Rattle.std.proofs.Common.{length, map, true≢false}
 use Rattle.std.proofs.lemmas.List.{take_all, drop_all}

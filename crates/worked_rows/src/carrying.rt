@@ -21,10 +21,10 @@ use sdp_formats_rows::PayloadParams;
 use std::alloc::Global;
 
 /// Has two ends of a row agree on section `0`, and carries three samples from one to the other at SSRC 44 and the row's
-/// payload type, each behind the one before where the row has redundancy: the second arrives last, and what comes out
+/// payload type, each after the one before if the row has redundancy: the second arrives last, and what comes out
 /// is what was sent, each sample once and in order.
 ///
-/// None where the exchange, an opening or a sample is refused, more comes out than three units, or memory runs out.
+/// None if the exchange, an opening or a sample is refused, more comes out than three units, or memory runs out.
 pub(crate) fn carry(
     alloc: Global,
     row: PayloadParams,

@@ -64,7 +64,7 @@ impl Write for Sink {
     }
 }
 
-/// Lines, how often they are read and whether reads fail behind them, how much is written and whether writes fail then,
+/// Lines, how often they are read and whether reads fail after them, how much is written and whether writes fail then,
 /// and what is to come of it.
 struct Run {
     lines: &'static [u8],

@@ -21,7 +21,7 @@ use failing_runs::print_runs;
 use proved_calls::print_calls;
 use std::process::ExitCode;
 
-/// Prints what comes of each; status 1 where something isn't as it must be, or a call does not come to its end.
+/// Prints what comes of each; status 1 if something isn't as it must be, or a call does not come to its end.
 fn main(rt: HostRuntime) -> ExitCode {
     let rows = print_rows(&rt);
     let runs = print_runs(&rt);

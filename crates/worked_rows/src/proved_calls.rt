@@ -10,8 +10,8 @@ use rtp_wire::{ExtensionValues, Frequency, MediaTime};
 use sdp_formats_rows::{PayloadParams, rows};
 use std::alloc::Global;
 
-/// Prints each codec whose call came to its end, without redundancy and with each payload behind the one before. None
-/// where one does not.
+/// Prints each codec whose call came to its end, without redundancy and with each payload after the one before. None
+/// if one does not.
 pub(crate) fn print_calls(rt: &HostRuntime) -> Option<()> {
     for use_red in [false, true] {
         print_call(rt, rows::opus(use_red))?;

@@ -72,7 +72,7 @@ fn clock_rates() -> bool {
     true
 }
 
-/// The third wrap of 16 bits, and the number behind it.
+/// The third wrap of 16 bits, and the number after it.
 fn sequence_numbers() -> bool {
     let mut number = SeqNo::from(196_613);
     let before = number.inc();

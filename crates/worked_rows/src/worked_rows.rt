@@ -29,7 +29,7 @@ pub(crate) fn receive_all_hands_out_in_order(alloc: Global) -> Option<bool> {
     )
 }
 
-/// The same where each datagram is given away.
+/// The same if each datagram is given away.
 pub(crate) fn receive_owned_hands_out_in_order(alloc: Global) -> Option<bool> {
     let mut end = receiving(alloc)?;
     for datagram in swapped(alloc)? {
@@ -99,7 +99,7 @@ pub(crate) fn a_time_in_milliseconds(alloc: Global) -> Option<bool> {
     Some(are_units(polls.as_slice(), 960, &[&[1, 2, 3]]))
 }
 
-/// What a fixed end that sends Opus of SSRC 44, in datagrams of at most so many bytes, answers to its first sample.
+/// What a fixed end that sends Opus of SSRC 44, in datagrams of at most this many bytes, answers to its first sample.
 fn sent(
     alloc: Global,
     limit: usize,

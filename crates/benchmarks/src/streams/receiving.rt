@@ -1,4 +1,4 @@
-//! Datagrams that are received, with a poll behind each.
+//! Datagrams that are received, with a poll after each.
 
 use crate::streams::line::{Line, types};
 use crate::streams::sending::{push, sender};
@@ -11,7 +11,7 @@ use std::alloc::Global;
 use std::io;
 use std::time::Instant;
 
-/// How many datagrams one slice has where others wait.
+/// How many datagrams one slice has if others wait.
 const TURNS: u32 = 200;
 
 /// A stream that receives a line's datagrams.
@@ -30,7 +30,7 @@ fn receiver(alloc: Global, line: &Line<'_>, hold_back: usize) -> io::Result<Rece
     ))
 }
 
-/// The datagrams of one sample behind some others.
+/// The datagrams of one sample after some others.
 fn datagrams_of(alloc: Global, line: &Line<'_>) -> io::Result<Vec<Vec<u8>>> {
     let mut stream = sender(alloc, line)?;
     for number in 0..4 {
@@ -92,7 +92,7 @@ pub(crate) fn measure(rt: &HostRuntime, line: &Line<'_>) -> io::Result<()> {
     put_rate(rt, line, "received and polled", nanos)
 }
 
-/// Receives each other datagram, where so many wait for the others.
+/// Receives each other datagram, if so many wait for the others.
 pub(crate) fn measure_waiting(rt: &HostRuntime, line: &Line<'_>, waiting: u32) -> io::Result<()> {
     let mut stream = receiver(rt.alloc(), line, waiting as usize)?;
     let mut datagrams = datagrams_of(rt.alloc(), line)?;

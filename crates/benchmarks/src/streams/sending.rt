@@ -14,7 +14,7 @@ const MTU: usize = 1200;
 
 const LIMIT: usize = 1300;
 
-/// A stream that sends a line's samples, with redundancy one and three packets back where the line has it.
+/// A stream that sends a line's samples, with redundancy one and three packets back if the line has it.
 pub(crate) fn sender(alloc: Global, line: &Line<'_>) -> io::Result<SendingStream> {
     if !has_format(line.row.codec) {
         return Err(io::Error::other("a codec without a payload format"));

@@ -24,7 +24,7 @@ use std::alloc::Global;
 
 impl End {
     /// An end of these rows, session and wanted header extensions (RFC 8285), which has agreed on nothing. The
-    /// session's bandwidth and attributes stand in each text that the end writes, the attributes behind the bundle.
+    /// session's bandwidth and attributes are in each text that the end writes, the attributes after the bundle.
     ///
     /// # Errors
     /// The first that holds of `RowNotPlain`, `TypesNotDistinct` and `NotWritable`; or `Memory`.
@@ -131,8 +131,8 @@ impl End {
 /// The repairs of each section fit its SSRCs: [`SectionSpec::is_sound`].
 ///
 /// # Errors
-/// What the first refused call answers. Where `b`'s answer is refused, `a`'s offer stays pending;
-/// where `a` refuses the answer, its offer stays pending too, and `b` has agreed.
+/// What the first refused call answers. If `b`'s answer is refused, `a`'s offer stays pending;
+/// if `a` refuses the answer, its offer stays pending too, and `b` has agreed.
 pub fn connect(
     a: &mut End,
     b: &mut End,

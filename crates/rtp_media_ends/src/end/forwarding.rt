@@ -33,7 +33,7 @@ impl End {
         self.streams.arrival(datagram)
     }
 
-    /// Takes the number alone of a datagram that arrived at a receiving stream, and returns it widened; None where it
+    /// Takes the number alone of a datagram that arrived at a receiving stream, and returns it widened; None if it
     /// was taken before, or is 1,024 or more below the greatest one taken. For a datagram that is sent on: nothing waits
     /// to be polled.
     ///

@@ -16,8 +16,8 @@ use rtp_wire::{Mid, Pt, Ssrc};
 
 impl End {
     /// Opens a sending stream of this SSRC for the agreed row of a payload type, and returns its
-    /// number, counted from 0 over the streams of both directions. Where `params` has distances, it
-    /// sends under the row's RED type, each payload behind older ones (RFC 2198).
+    /// number, counted from 0 over the streams of both directions. If `params` has distances, it
+    /// sends under the row's RED type, each payload after older ones (RFC 2198).
     ///
     /// # Conditions
     /// The parameters are sound for the agreed row's RED type: `StreamParams::is_sound` of [`End::agreed_red`].
@@ -60,7 +60,7 @@ impl End {
     /// `held` is 4,096 to 16,384, as `may_hold` says.
     ///
     /// # Errors
-    /// As [`End::open_sender`]; `SsrcNotNamed` where the section of the other end doesn't name the
+    /// As [`End::open_sender`]; `SsrcNotNamed` if the section of the other end doesn't name the
     /// SSRC.
     #[tactic(auto, unfolding(crate::specs::Ends::after_open_receiver))]
     pub fn open_receiver(

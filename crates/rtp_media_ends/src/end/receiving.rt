@@ -93,16 +93,16 @@ impl End {
         self.streams.missing(stream)
     }
 
-    /// The next unit of a receiving stream, where one is ready: the lowest one, if it begins right
-    /// behind the last one that was handed out, or nothing was, or more frames are complete than are
+    /// The next unit of a receiving stream, if one is ready: the lowest one, if it begins right
+    /// after the last one that was handed out, or nothing was, or more frames are complete than are
     /// held back. Fewer packets are then held.
     ///
     /// # Conditions
     /// The number is that of a receiving stream: [`End::is_receiver`].
     ///
     /// # Errors
-    /// `PollFault::Payload` where a packet of the next frame is refused, which is then done with; or
-    /// `PollFault::Memory`, only where a frame is ready, and it stays, while some of its packets may have
+    /// `PollFault::Payload` if a packet of the next frame is refused, which is then done with; or
+    /// `PollFault::Memory`, only if a frame is ready, and it stays, while some of its packets may have
     /// been read. All else is unchanged.
     pub fn poll(&mut self, stream: usize) -> Result<Option<Unit>, PollFault>
         requires { is_receiver_at self.old stream ≡ true }
@@ -113,7 +113,7 @@ impl End {
     }
 
     /// The lowest complete unit of a receiving stream, whether or not a datagram before it is missing: a poll that
-    /// holds no complete frame back. For the end of a stream, when nothing more will come; None where no frame is
+    /// holds no complete frame back. For the end of a stream, when nothing more will come; None if no frame is
     /// complete.
     ///
     /// # Conditions
@@ -136,7 +136,7 @@ impl End {
     /// The number is that of a receiving stream: [`End::is_receiver`].
     ///
     /// # Errors
-    /// `AllocError` where memory for that list runs out: what was polled is lost, and nothing else changes.
+    /// `AllocError` if memory for that list runs out: what was polled is lost, and nothing else changes.
     pub fn poll_all(&mut self, stream: usize) -> Result<Vec<Result<Unit, PollFault>>, AllocError>
         requires { is_receiver_at self.old stream ≡ true }
         ensures polled { IfOk result (λ answers. AtReceiver self.old stream

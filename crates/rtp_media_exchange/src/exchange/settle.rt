@@ -20,7 +20,7 @@ use rtp_media_sections::{Section, SectionSpec, corresponds, may_follow};
 use sdp_formats_rounds::CodecConfig;
 
 impl Exchange {
-    /// The config after the rounds with the sections of a text, where these are exchanged for wanted ones.
+    /// The config after the rounds with the sections of a text, if these are exchanged for wanted ones.
     #[tactic(auto, unfolding(crate::specs::Refusals::refusal_of_sections))]
     fn settle(
         &self,

@@ -46,7 +46,7 @@ impl StreamTable {
     /// what each stream returned, by its number; one that sends is not polled.
     ///
     /// # Errors
-    /// `AllocError` where memory for these lists runs out; some streams were then polled some times.
+    /// `AllocError` if memory for these lists runs out; some streams were then polled some times.
     pub fn poll_out(&mut self) -> Result<Vec<Polls>, AllocError>
         ensures out { IfOk result (λ polls. ArePolledOut self.old polls.items self.new) }
         ensures some { OnErr result (ArePolledSome self.old self.new) }
@@ -69,7 +69,7 @@ fn poll_each(alloc: Global, streams: &mut Vec<OpenStream>) -> Result<Vec<Polls>,
     Ok(polls)
 }
 
-/// Polls a stream, where it receives, until it returns None or memory runs out.
+/// Polls a stream, if it receives, until it returns None or memory runs out.
 fn poll_out(alloc: Global, stream: &mut OpenStream) -> Result<Polls, AllocError>
     ensures out { IfOk result (λ polls. AnswersAll stream.old polls stream.new) }
     ensures some { OnErr result (AnswersSome stream.old stream.new) }

@@ -14,11 +14,11 @@ use sdp_formats_rows::{CodecSpec, FormatParams, PayloadParams, rows};
 use std::alloc::AllocError;
 
 impl CodecConfig {
-    /// Adds this row behind all others.
+    /// Adds this row after all others.
     ///
     /// # Errors
     ///
-    /// `AllocError` where memory runs out; the config is then as before.
+    /// `AllocError` if memory runs out; the config is then as before.
     pub fn push(&mut self, row: PayloadParams) -> Result<(), AllocError>
         ensures ok { OnOk result (self.new ≡ with_row row self.old) }
         ensures err { OnErr result (self.new ≡ self.old) }
@@ -27,11 +27,11 @@ impl CodecConfig {
         Ok(())
     }
 
-    /// Adds a row behind all others, of this type and codec, as `PayloadParams::new` makes it.
+    /// Adds a row after all others, of this type and codec, as `PayloadParams::new` makes it.
     ///
     /// # Errors
     ///
-    /// `AllocError` where memory runs out; the config is then as before.
+    /// `AllocError` if memory runs out; the config is then as before.
     pub fn add_config(
         &mut self,
         pt: Pt,
@@ -55,12 +55,12 @@ impl CodecConfig {
         Ok(())
     }
 
-    /// Adds a row of H.264 behind all others, at 90,000 Hz in packetization mode 1 or 0, of this profile-level-id, with
+    /// Adds a row of H.264 after all others, at 90,000 Hz in packetization mode 1 or 0, of this profile-level-id, with
     /// level asymmetry (RFC 6184 8.1).
     ///
     /// # Errors
     ///
-    /// `AllocError` where memory runs out; the config is then as before.
+    /// `AllocError` if memory runs out; the config is then as before.
     pub fn add_h264(
         &mut self,
         pt: Pt,
@@ -77,12 +77,12 @@ impl CodecConfig {
         Ok(())
     }
 
-    /// Adds a row of H.265 behind all others, at 90,000 Hz, of the profile, tier and level that these numbers mean, or
-    /// of main profile, main tier and level 3.1 where one is off its table (RFC 7798 7.1).
+    /// Adds a row of H.265 after all others, at 90,000 Hz, of the profile, tier and level that these numbers mean, or
+    /// of main profile, main tier and level 3.1 if one is off its table (RFC 7798 7.1).
     ///
     /// # Errors
     ///
-    /// `AllocError` where memory runs out; the config is then as before.
+    /// `AllocError` if memory runs out; the config is then as before.
     pub fn add_h265(
         &mut self,
         pt: Pt,
@@ -100,12 +100,12 @@ impl CodecConfig {
         Ok(())
     }
 
-    /// Adds a row of H.266 behind all others, at 90,000 Hz, of the profile, tier and level that these numbers mean, or
-    /// of main 10 profile, main tier and level 3.1 where one is off its table (RFC 9328 7.2).
+    /// Adds a row of H.266 after all others, at 90,000 Hz, of the profile, tier and level that these numbers mean, or
+    /// of main 10 profile, main tier and level 3.1 if one is off its table (RFC 9328 7.2).
     ///
     /// # Errors
     ///
-    /// `AllocError` where memory runs out; the config is then as before.
+    /// `AllocError` if memory runs out; the config is then as before.
     pub fn add_h266(
         &mut self,
         pt: Pt,

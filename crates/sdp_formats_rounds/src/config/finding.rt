@@ -23,7 +23,7 @@ fn find<F: FnMut(&PayloadParams) -> bool>(
 }
 
 impl CodecConfig {
-    /// The first row, in order of preference, that a test accepts; None where it accepts none. The test is called on
+    /// The first row, in order of preference, that a test accepts; None if it accepts none. The test is called on
     /// one row after the other.
     ///
     /// # Conditions

@@ -18,7 +18,7 @@ use sdp_formats_rows::{PayloadParams, rows_of_kind};
 use std::alloc::{AllocError, Global};
 
 impl CodecConfig {
-    /// The own row that matches a row best, the last of the greatest score; None where none matches.
+    /// The own row that matches a row best, the last of the greatest score; None if none matches.
     pub fn match_params(&self, params: PayloadParams) -> Option<&PayloadParams>
         ensures { option_copied result ≡ best_row params.spec self.now.rows }
     {
@@ -47,7 +47,7 @@ impl CodecConfig {
     ///
     /// # Errors
     ///
-    /// `AllocError` where memory runs out.
+    /// `AllocError` if memory runs out.
     pub fn all_for_kind(
         &self,
         kind: MediaKind,
@@ -59,7 +59,7 @@ impl CodecConfig {
         rows_of_kind(alloc, kind, for_new_offer, self.params.as_slice())
     }
 
-    /// The highest telephone event of the first row of this type that is of telephone events, 16 where it gives none
+    /// The highest telephone event of the first row of this type that is of telephone events, 16 if it gives none
     /// (RFC 4733 2.4.1 has 15).
     pub fn tele_event_max(&self, pt: Pt) -> Option<u8>
         ensures { result ≡ option_map (λ row. events_of row.spec.format)

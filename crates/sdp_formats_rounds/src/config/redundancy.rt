@@ -35,11 +35,11 @@ impl CodecConfig {
     }
 
     /// Sets how many packets back each level of redundant audio lies (RFC 2198): of those given 1
-    /// to 8 are kept, rising and each once, and 1 is put first where it is missing.
+    /// to 8 are kept, rising and each once, and 1 is put first if it is missing.
     ///
     /// # Errors
     ///
-    /// `AllocError` where memory runs out; the config is then as before.
+    /// `AllocError` if memory runs out; the config is then as before.
     pub fn set_red_distances(&mut self, distances: &[u32]) -> Result<(), AllocError>
         ensures ok { OnOk result (self.new ≡ record self.old { distances = kept_distances distances.now }) }
         ensures err { OnErr result (self.new ≡ self.old) }

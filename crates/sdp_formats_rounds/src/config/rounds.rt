@@ -37,15 +37,15 @@ impl CodecConfig {
     ///
     /// Each row meets the row of the other end that matches it best, the last of the greatest score. A locked row keeps
     /// its types and takes what the match leaves of its settings. Another one takes over the other end's type and that
-    /// of its retransmissions, and its RED type if it has one itself; where the other end doesn't receive, an own or a
+    /// of its retransmissions, and its RED type if it has one itself; if the other end doesn't receive, an own or a
     /// free type replaces one that is claimed. Rows that no row matches stay, and move away from the types of
     /// locked rows.
     ///
     /// # Errors
     ///
     /// The first refusal that is met, the locked rows first, then those that are matched, then those that are left:
-    /// `TypeTaken` and `ResendTaken` where a type is above 127 or claimed already, `NoFreeType` where none is free;
-    /// `Memory` where memory runs out. The config is then as before.
+    /// `TypeTaken` and `ResendTaken` if a type is above 127 or claimed already, `NoFreeType` if none is free;
+    /// `Memory` if memory runs out. The config is then as before.
     pub fn round(&mut self, remote: &[PayloadParams], dir: Direction) -> Result<(), RoundError>
         ensures ok { OnOk result (round (receives dir) remote.now self.old.rows ≡ Ok self.new.rows) }
         ensures refused { IfErr result (λ e. e ≢ Memory → round (receives dir) remote.now self.old.rows ≡ Err e) }

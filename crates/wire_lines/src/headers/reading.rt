@@ -37,7 +37,7 @@ fn put_values(line: &mut CommandLine<'_>, values: &ExtensionValues) {
     }
 }
 
-/// `read-header HEX`: the header in front of a datagram, its length, and the payload behind it.
+/// `read-header HEX`: the header in front of a datagram, its length, and the payload after it.
 pub(crate) fn header_text(line: &mut CommandLine<'_>, map: &ExtensionMap) {
     let datagram = line.bytes();
     let Some(header) = RtpHeader::parse(&datagram, map) else {

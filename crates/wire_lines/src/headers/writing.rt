@@ -97,7 +97,7 @@ fn set_value(line: &mut CommandLine<'_>, values: &mut ExtensionValues, name: &st
     }
 }
 
-/// When a frame was captured, and behind it the offset of the capturing clock.
+/// When a frame was captured, and after it the offset of the capturing clock.
 fn set_time(line: &mut CommandLine<'_>, values: &mut ExtensionValues, name: &str, value: &str) {
     match name {
         "captured" => {

@@ -12,7 +12,7 @@ own : (level : H264LevelIdc) → with_number level_idc levels (level_idc level) 
 own Level1 = refl
 own _ = refl
 
--- each level stands at its place
+-- each level is at its place
 stands : (level : H264LevelIdc) → slice_get levels (place_of level_idc levels level) ≡ Some level
 stands Level1 = refl
 stands _ = refl

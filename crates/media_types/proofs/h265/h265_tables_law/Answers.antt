@@ -7,7 +7,7 @@ use Rattle.media_types.specs.declared.h265.H265Level.TheVariants.{Level1}
 use Rattle.media_types.proofs.TableLaws.{is_rising}
 use Rattle.media_types.proofs.h265.h265_tables_law.Goals as goal
 
--- each level stands at its place
+-- each level is at its place
 stands : (level : H265Level) → slice_get levels (place_of level_id levels level) ≡ Some level
 stands Level1 = refl
 stands _ = refl

@@ -8,7 +8,7 @@ use Rattle.media_types.proofs.TableLaws.{is_rising}
 use Rattle.media_types.proofs.LevelsApart.{levels_apart}
 use Rattle.media_types.proofs.h266.h266_tables_law.Goals as goal
 
--- each level stands at its place
+-- each level is at its place
 stands : (level : H266Level) → slice_get levels (place_of level_id levels level) ≡ Some level
 stands Level1 = refl
 stands _ = refl

@@ -3,6 +3,6 @@ use Rattle.sdp_formats_rounds.specs.Members.{IsEach}
 use Rattle.rtp_media_exchange.specs.Answering.{HasWidths}
 use Rattle.rtp_media_exchange.proofs.widths.pass_sections.Given as goal
 
--- where it holds of the rest, it holds of all
+-- if it holds of the rest, it holds of all
 abbrev pub invariant-loop-section : goal.invariant-loop-section
 invariant-loop-section l = IsEach HasWidths (drop l.section-index l.sections) → IsEach HasWidths l.sections
