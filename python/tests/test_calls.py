@@ -217,15 +217,15 @@ class Numbers(unittest.TestCase):
         a, b = agreed()
         self.assertEqual((b.missing(0), b.is_passed(0, 100)), ([], False))
         [first] = a.push_sample(0, 960, b"abc")
-        self.assertEqual(b.receive(first), (0, 100))
+        self.assertEqual(b.receive(first), Taken(0, 100))
         self.assertIsNotNone(b.poll(0))
         self.assertEqual((b.is_passed(0, 100), b.is_passed(0, 101), a.next_number(0)), (True, False, 101))
         a.skip_to(0, 104)
         [later] = a.push_sample(0, 1920, b"def")
-        self.assertEqual((b.receive(later), b.missing(0)), ((0, 104), [101, 102, 103]))
+        self.assertEqual((b.receive(later), b.missing(0)), (Taken(0, 104), [101, 102, 103]))
         self.assertIsNone(b.poll(0))
         b.pass_to(0, 103)
-        self.assertEqual((b.missing(0), b.poll(0).bytes), ([], b"def"))
+        self.assertEqual((b.missing(0), b.poll(0).data), ([], b"def"))
 
     def test_a_closed_stream_is_none(self) -> None:
         a, b = agreed()
