@@ -7,7 +7,7 @@ use Rattle.media_files.specs.Units.{Timed, timed}
 use Rattle.media_files.specs.declared.ivf.IvfCodec.{IvfCodec}
 use Rattle.media_files.specs.declared.units.TimedUnit.{TimedUnit}
 
--- behind its header the frames stand
+-- after its header the frames are
 pub ivf_file-begun : (codec : IvfCodec) (rate ticks first : ℕ) (size : Size) (frames : List Timed) (fresh out : List ℕ)
     → fresh ≡ [] → out ≡ fresh ++ ivf_header codec size rate ticks → size ≡ picture_size codec frames
     → ticks ≡ ticks_of (length frames) (span_of frames) → first ≡ first_time frames

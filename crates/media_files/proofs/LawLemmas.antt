@@ -5,7 +5,7 @@ use Rattle.std.proofs.lemmas.Bool.{cases_lt}
 use Rattle.media_files.specs.Ivf.{nearest_time, ahead}
 use Rattle.media_files.specs.Opus.{opus_duration, opus_frames, silence_of}
 
--- a time ahead, and one behind
+-- a time ahead, and one after
 pub nearest_time-ahead : (p low : ℕ) → ahead p low < 2147483648 → nearest_time p low ≡ p + ahead p low
 unfolding nearest_time
 nearest_time-ahead p low near =

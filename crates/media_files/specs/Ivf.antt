@@ -39,7 +39,7 @@ abbrev pub or_size : Option Size → Size → Size
 or_size (Some size) other = size
 or_size None other = other
 
--- The size in the first key frame, and 0 where there is none.
+-- The size in the first key frame, and 0 if there is none.
 abbrev pub first_vp8_size : List Timed → Size
 first_vp8_size [] = size_of 0 0
 first_vp8_size (f ∷ frames) = or_size (vp8_size f.bytes) (first_vp8_size frames)

@@ -32,7 +32,7 @@ opus_frames packet =
 abbrev pub at_most_120_ms : ℕ → ℕ
 at_most_120_ms samples = if nat_le samples 5760 then samples else 0
 
--- How many samples a packet has; 0 where it is none, as one of more than 120 ms (RFC 6716 3.2.5).
+-- How many samples a packet has; 0 if it is none, as one of more than 120 ms (RFC 6716 3.2.5).
 unfoldable pub opus_duration : List ℕ → ℕ
 opus_duration packet = at_most_120_ms (opus_frames packet * frame_samples (slice_index packet 0 / 8))
 
@@ -107,7 +107,7 @@ place_of serial after is_last = record {
   sequence = after.sequence - 1;
 }
 
--- The page of a packet, which ends the stream where it is the last.
+-- The page of a packet, which ends the stream if it is the last.
 abbrev pub sound_page : ℕ → Playing → Option (List ℕ) → Bool → List ℕ
 sound_page serial at item is_last =
     page (place_of serial (playing_after at item) is_last) (heard_of (sound item) at.previous)

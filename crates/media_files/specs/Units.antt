@@ -15,7 +15,7 @@ timed u = record { time = u.time; bytes = u.bytes.now }
 abbrev pub delimited : List ℕ → List ℕ
 delimited unit = 0x12 ∷ (0 ∷ unit)
 
--- The low-overhead bitstream format (AV1 bitstream specification 5.2): unit behind unit.
+-- The low-overhead bitstream format (AV1 bitstream specification 5.2): unit after unit.
 abbrev pub obu_stream_of : List (List ℕ) → List ℕ
 obu_stream_of units = flat_map delimited units
 

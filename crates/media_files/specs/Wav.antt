@@ -48,7 +48,7 @@ riff_front n = codes "RIFF" ++ (u32_le (50 + n + n % 2) ++ codes "WAVE")
 unfoldable pub data_front : ℕ → List ℕ
 data_front n = codes "data" ++ u32_le n
 
--- What stands in front of so many bytes.
+-- What is in front of this many bytes.
 unfoldable pub wav_front : WavCodec → ℕ → List ℕ
 wav_front c n = riff_front n ++ (format_chunk c ++ (format_rates c ++ (fact_chunk c n ++ data_front n)))
 
@@ -56,6 +56,6 @@ wav_front c n = riff_front n ++ (format_chunk c ++ (format_rates c ++ (fact_chun
 unfoldable pub wav_file : WavCodec → List ℕ → List ℕ
 wav_file c bytes = wav_front c (length bytes) ++ (bytes ++ padding (length bytes))
 
--- The bytes of packets one behind the other.
+-- The bytes of packets one after the other.
 abbrev pub joined : List (List ℕ) → List ℕ
 joined packets = flat_map (λ p. p) packets

@@ -51,7 +51,7 @@ fn vp8_size(frame: &[u8]) -> Option<(u16, u16)>
     ))
 }
 
-/// Width and height in the first key frame of VP8, and 0 where there is none.
+/// Width and height in the first key frame of VP8, and 0 if there is none.
 fn first_vp8_size(frames: &[TimedUnit<'_>]) -> (u16, u16)
     ensures { size_of result.0 result.1 ≡ first_vp8_size (map timed frames.now) }
 {
@@ -63,7 +63,7 @@ fn first_vp8_size(frames: &[TimedUnit<'_>]) -> (u16, u16)
     (0, 0)
 }
 
-/// Width and height of the pictures, where the frames say it in their first bytes, else 0.
+/// Width and height of the pictures, if the frames say it in their first bytes, else 0.
 fn picture_size(codec: IvfCodec, frames: &[TimedUnit<'_>]) -> (u16, u16)
     ensures { size_of result.0 result.1 ≡ picture_size codec (map timed frames.now) }
 {
@@ -123,7 +123,7 @@ fn framed_len(codec: IvfCodec, unit: &[u8]) -> usize
     }
 }
 
-/// Writes the bytes of a unit, of AV1 behind a temporal delimiter.
+/// Writes the bytes of a unit, of AV1 after a temporal delimiter.
 fn push_framed(codec: IvfCodec, unit: &[u8], out: &mut Vec<u8>) -> Result<(), RecordingError>
     ensures value { OnOk result (out.new.items ≡ out.old.items ++ framed codec unit.now) }
     ensures refused { IfErr result (λ e. e ≡ RecordingError.Memory) }
@@ -195,7 +195,7 @@ fn last_time(first: u64, frames: &[TimedUnit<'_>]) -> u64
     previous
 }
 
-/// How many ticks so many frames last, of which the last one begins so many after the first.
+/// How many ticks this many frames last, of which the last one begins so many after the first.
 #[tactic(auto, unfolding(crate::specs::Ivf::ticks_of))]
 fn ticks_of(count: u32, span: u64) -> u32
     ensures { result ≡ ticks_of count span }

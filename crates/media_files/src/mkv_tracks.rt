@@ -30,9 +30,9 @@ pub enum MkvCodec {
 /// What a track carries.
 #[derive(Debug, Clone, Copy, PartialEq, Eq)]
 pub enum MkvMedia {
-    /// Pictures of so many pixels in width and height.
+    /// Pictures of this many pixels in width and height.
     Video(u32, u32),
-    /// So many samples a second, of so many channels.
+    /// So many samples a second, of this many channels.
     Audio(u32, u8),
 }
 

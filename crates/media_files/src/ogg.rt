@@ -14,7 +14,7 @@ const GENERATOR: u32 = 0x04c1_1db7;
 /// The longest packet of a page, which has at most 255 segments of at most 255 bytes: a packet's last one has less.
 pub const LONGEST_PACKET: usize = 65024;
 
-/// Where a page stands.
+/// Where a page is.
 #[derive(Debug, Clone, Copy)]
 pub struct PagePlace {
     /// 2 for the first page of a stream, 4 for its last.
@@ -55,7 +55,7 @@ fn crc_byte(remainder: u32, byte: u8) -> u32
     crc_half(crc_half(remainder ^ (byte as u32 * 16777216)))
 }
 
-/// The remainder of bytes behind those that gave another.
+/// The remainder of bytes after those that gave another.
 fn crc(remainder: u32, bytes: &[u8]) -> u32
     ensures { result ≡ crc remainder bytes.now }
 {
@@ -66,7 +66,7 @@ fn crc(remainder: u32, bytes: &[u8]) -> u32
     remainder
 }
 
-/// Writes what stands in front of the checksum.
+/// Writes what is in front of the checksum.
 #[tactic(auto, unfolding(crate::specs::Ogg::page_front))]
 fn push_front(place: &PagePlace, out: &mut Vec<u8>) -> Result<(), AllocError>
     ensures { OnOk result (out.new.items ≡ out.old.items ++ page_front (place_shown place.now)) }
@@ -78,7 +78,7 @@ fn push_front(place: &PagePlace, out: &mut Vec<u8>) -> Result<(), AllocError>
     push_u32(out, place.sequence)
 }
 
-/// Writes the lengths of the segments of so many bytes.
+/// Writes the lengths of the segments of this many bytes.
 fn push_lacing(len: usize, out: &mut Vec<u8>) -> Result<(), AllocError>
     ensures { OnOk result (out.new.items ≡ out.old.items ++ lacing len) }
 {
@@ -89,7 +89,7 @@ fn push_lacing(len: usize, out: &mut Vec<u8>) -> Result<(), AllocError>
     Ok(())
 }
 
-/// Writes what stands behind the checksum.
+/// Writes what follows the checksum.
 #[tactic(auto, unfolding(crate::specs::Ogg::page_end))]
 fn push_end(packet: &[u8], out: &mut Vec<u8>) -> Result<(), AllocError>
     requires { length packet.now ≤ longest_packet }

@@ -19,7 +19,7 @@ use std::alloc::{AllocError, Global};
 // The most samples of a packet, 120 ms at 48,000 a second.
 const LONGEST: usize = 5760;
 
-// With the two pages in front, so many packets have pages of their own numbers.
+// With the two pages in front, this many packets have pages of their own numbers.
 const MOST_PACKETS: usize = 4294967293;
 
 /// A stream of Opus.
@@ -74,7 +74,7 @@ fn opus_frames(packet: &[u8]) -> usize
     }
 }
 
-/// How many samples, at 48,000 a second, a packet of Opus has; 0 where it is none, as one of more than 120 ms (RFC 6716
+/// How many samples, at 48,000 a second, a packet of Opus has; 0 if it is none, as one of more than 120 ms (RFC 6716
 /// 3.2.5).
 #[tactic(auto, unfolding(crate::specs::Opus::opus_duration))]
 pub fn opus_duration(packet: &[u8]) -> usize

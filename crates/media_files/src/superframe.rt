@@ -39,7 +39,7 @@ fn push_size(width: usize, size: u32, out: &mut Vec<u8>) -> Result<(), AllocErro
     out.extend_from_slice(&size.to_le_bytes()[..width])
 }
 
-/// Writes sizes, each in so many bytes.
+/// Writes sizes, each in this many bytes.
 fn push_sizes(width: usize, sizes: &[u32], out: &mut Vec<u8>) -> Result<(), AllocError>
     requires { width ≤ 4 }
     ensures { OnOk result (out.new.items ≡ out.old.items ++ flat_map (size_bytes width) sizes.now) }

@@ -17,7 +17,7 @@ pub struct TimedUnit<'a> {
 // An OBU of type 2 with its size, which is 0 (AV1 bitstream specification 5.6).
 pub const TEMPORAL_DELIMITER: [u8; 2] = [0x12, 0];
 
-/// The temporal units of AV1 in the low-overhead bitstream format, each behind a temporal delimiter (AV1 bitstream
+/// The temporal units of AV1 in the low-overhead bitstream format, each after a temporal delimiter (AV1 bitstream
 /// specification 5.2 and 7.5). The units have none of their own, and their OBUs have sizes.
 pub fn obu_stream(alloc: Global, units: &[&[u8]]) -> Result<Vec<u8>, AllocError>
     ensures { IfOk result (λ v. v.items ≡ obu_stream_of (map (λ u. u.now) units.now)) }
@@ -30,7 +30,7 @@ pub fn obu_stream(alloc: Global, units: &[&[u8]]) -> Result<Vec<u8>, AllocError>
     Ok(out)
 }
 
-/// The access units of H.264, H.265 or H.266 in the byte stream format (Annex B of each): one behind the other, as
+/// The access units of H.264, H.265 or H.266 in the byte stream format (Annex B of each): one after the other, as
 /// each begins with a start code.
 pub fn annex_b(alloc: Global, units: &[&[u8]]) -> Result<Vec<u8>, AllocError>
     ensures { IfOk result (λ v. v.items ≡ annex_b_of (map (λ u. u.now) units.now)) }

@@ -51,7 +51,7 @@ impl WavCodec {
         }
     }
 
-    /// How many samples so many bytes have.
+    /// How many samples this many bytes have.
     fn samples(self, len: u32) -> u32
         requires { len < 2147483648 }
         ensures { result ≡ samples_of self len }
@@ -108,7 +108,7 @@ fn push_riff(len: u32, out: &mut Vec<u8>) -> Result<(), AllocError>
     out.extend_from_slice(b"WAVE")
 }
 
-/// Writes what stands right in front of the samples.
+/// Writes what is right in front of the samples.
 #[tactic(auto, unfolding(crate::specs::Wav::data_front))]
 fn push_data(len: u32, out: &mut Vec<u8>) -> Result<(), AllocError>
     ensures { OnOk result (out.new.items ≡ out.old.items ++ data_front len) }
@@ -117,7 +117,7 @@ fn push_data(len: u32, out: &mut Vec<u8>) -> Result<(), AllocError>
     push_u32(out, len)
 }
 
-/// Writes what stands in front of so many bytes.
+/// Writes what is in front of this many bytes.
 #[tactic(auto, unfolding(crate::specs::Wav::wav_front))]
 fn push_wav_front(codec: WavCodec, len: u32, out: &mut Vec<u8>) -> Result<(), AllocError>
     requires { len < 2147483648 }
@@ -140,7 +140,7 @@ fn push_padding(len: usize, out: &mut Vec<u8>) -> Result<(), AllocError>
     Ok(())
 }
 
-/// The bytes of packets one behind the other.
+/// The bytes of packets one after the other.
 fn joined(alloc: Global, packets: &[&[u8]]) -> Result<Vec<u8>, AllocError>
     ensures { IfOk result (λ v. v.items ≡ joined (map (λ p. p.now) packets.now)) }
 {
@@ -151,7 +151,7 @@ fn joined(alloc: Global, packets: &[&[u8]]) -> Result<Vec<u8>, AllocError>
     Ok(out)
 }
 
-/// The WAVE file of these packets of sound, one behind the other.
+/// The WAVE file of these packets of sound, one after the other.
 ///
 /// # Errors
 /// The packets have 2^31 bytes or more, or there is no memory for the file.

@@ -22,14 +22,14 @@ whole_after-last most i f g held out below found last =
     let one : most - i ≡ suc (most - (i + 1)) = omega arith in
     rw (one, found, last) refl
 
--- where no fragment goes on, the packet isn't whole
+-- if no fragment goes on, the packet isn't whole
 pub whole_after-none : (n : ℕ) (f : IpFragment) (held : List IpFragment) (out : List ℕ)
     → piece_at f (length out) held ≡ None → whole_after n f held out ≡ None
 unfolding whole_after
 whole_after-none zero f held out none = refl
 whole_after-none (suc n) f held out none = rw none refl
 
--- where no more may come, it isn't either
+-- if no more may come, it isn't either
 pub whole_after-end : (most i : ℕ) (f : IpFragment) (held : List IpFragment) (out : List ℕ) → most ≤ i
     → whole_after (most - i) f held out ≡ None
 unfolding whole_after

@@ -8,7 +8,7 @@ use Rattle.media_files_captures.specs.Tunnels.{inside}
 use Rattle.media_files_captures.specs.Frames.{datagram_behind, datagram_of}
 use Rattle.media_files_captures.specs.declared.frames.PassedOver.{PassedOver}
 
--- with a tag in front, the rest has the same type behind its tags
+-- with a tag in front, the rest has the same type after its tags
 pub untagged-tag : (kind : ℕ) (xs : List ℕ) → is_tag kind ≡ true → 4 ≤ length xs
     → untagged kind xs ≡ untagged (u16_be xs 2) (drop 4 xs)
 unfolding untagged
@@ -36,14 +36,14 @@ behind_extensions-refused most i next bytes why below is_one read =
     let one : most - i ≡ suc (most - (i + 1)) = omega arith in
     rw (one, is_one, read) refl
 
--- where no extension header is passed, all stays
+-- if no extension header is passed, all stays
 pub behind_extensions-end : (n next : ℕ) (bytes : List ℕ) → is_passed next bytes ≡ false
     → behind_extensions n next bytes ≡ Ok (extended next bytes)
 unfolding behind_extensions
 behind_extensions-end zero next bytes none = refl
 behind_extensions-end (suc n) next bytes none = rw none refl
 
--- with no tag in front, or too little behind it, all stays
+-- with no tag in front, or too little after it, all stays
 pub untagged-end : (kind : ℕ) (xs : List ℕ) → is_tag kind ≡ false → untagged kind xs ≡ extended kind xs
 unfolding untagged
 untagged-end kind [] none = refl
@@ -60,7 +60,7 @@ untagged-short kind (a ∷ b ∷ []) short = refl
 untagged-short kind (a ∷ b ∷ c ∷ []) short = refl
 untagged-short kind (a ∷ b ∷ c ∷ d ∷ rest) short = absurd (omega arith)
 
--- where no more may come, all stays
+-- if no more may come, all stays
 pub behind_extensions-none : (most i next : ℕ) (bytes : List ℕ) → most ≤ i
     → behind_extensions (most - i) next bytes ≡ Ok (extended next bytes)
 unfolding behind_extensions
@@ -84,7 +84,7 @@ datagram_behind-refused most i t why below read =
     let one : most - i ≡ suc (most - (i + 1)) = omega arith in
     rw (one, read) refl
 
--- where no tunnel is, the datagram has to stand here
+-- if no tunnel is, the datagram has to be here
 pub datagram_behind-end : (n : ℕ) (t : Extended) → inside t ≡ Ok None → datagram_behind n t ≡ datagram_of t
 unfolding datagram_behind
 datagram_behind-end zero t none = refl

@@ -31,7 +31,7 @@ found f start [] g is = absurd (cc)
 found f start (h ∷ held) g is =
     found-here f start h held g (is_of_packet f h && (h.start == start)) refl is (found f start held g)
 
--- the bytes behind those that there are
+-- the bytes after those that there are
 pub record Made (f : IpFragment) (held : List IpFragment) (out bytes : List ℕ) : Type 0 where
   pub pieces : List IpFragment
   pub are : ArePieces f (length out) held pieces

@@ -40,7 +40,7 @@ fragment_shown f = record {
   bytes = f.bytes.now;
 }
 
--- A fragment has bytes, and ends where a packet can.
+-- A fragment has bytes, and ends if a packet can.
 abbrev pub with_end : Fragment → Option Fragment
 with_end f =
     if (length f.bytes == 0) then None

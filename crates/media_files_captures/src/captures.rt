@@ -33,7 +33,7 @@ pub struct CapturedPacket<'a> {
 pub struct Capture<'a> {
     /// Each packet once.
     pub packets: Vec<CapturedPacket<'a>>,
-    /// What stands behind the last packet, and is none: of a file that was cut off, a part of one.
+    /// What follows the last packet, and is none: of a file that was cut off, a part of one.
     pub unread: &'a [u8],
 }
 

@@ -55,7 +55,7 @@ pub enum Reassembly {
     Whole(Vec<u8>),
 }
 
-/// A fragment with its end; None if it has no bytes, or ends where no packet can.
+/// A fragment with its end; None if it has no bytes, or ends if no packet can.
 fn with_end(fragment: IpFragment<'_>) -> Option<IpFragment<'_>>
     ensures { option_map fragment_shown result ≡ with_end (fragment_shown fragment.entry) }
 {

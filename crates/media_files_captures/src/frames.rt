@@ -23,7 +23,7 @@ pub enum LinkType {
     LinuxCooked2,
     /// IP packets with nothing in front (numbers 12, 14, 101, 228 and 229).
     Raw,
-    /// IP packets behind the four bytes of a loopback (numbers 0 and 108).
+    /// IP packets after the four bytes of a loopback (numbers 0 and 108).
     Loopback,
     /// Any other, in which no datagram is found.
     Other,

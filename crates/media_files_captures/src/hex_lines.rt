@@ -58,7 +58,7 @@ fn hex_bytes(alloc: Global, text: &[u8]) -> Result<Option<Vec<u8>>, AllocError>
     }
 }
 
-/// A number with a decimal digit behind it.
+/// A number with a decimal digit after it.
 #[tactic(auto, unfolding(crate::specs::HexLines::with_digit))]
 fn with_digit(number: u64, digit: u8) -> Option<u64>
     ensures { result ≡ with_digit number digit }
@@ -128,7 +128,7 @@ fn datagram_in(alloc: Global, line: &[u8]) -> Result<Option<HexDatagram>, AllocE
     datagram_at(alloc, blank_of(line), line)
 }
 
-/// What a line says, where it is no bad one: nothing, or a datagram.
+/// What a line says, if it is no bad one: nothing, or a datagram.
 #[tactic(auto, unfolding(crate::specs::HexLines::said))]
 fn said(alloc: Global, line: &[u8]) -> Result<Option<Option<HexDatagram>>, AllocError>
     ensures { IfOk result (λ s. said_shown s ≡ said line.now) }
@@ -166,7 +166,7 @@ fn line_len(text: &[u8]) -> usize
     text.iter().take_while(|byte| **byte != b'\n').count()
 }
 
-/// What stands behind a line feed at a place, or nothing at the end.
+/// What follows a line feed at a place, or nothing at the end.
 fn behind_line(text: &[u8], len: usize) -> &[u8]
     requires { len ≤ length text.now }
     ensures value { result.now ≡ drop (len + 1) text.now }
@@ -179,7 +179,7 @@ fn behind_line(text: &[u8], len: usize) -> &[u8]
     }
 }
 
-/// What the first line of a text says, and what stands behind it; None for a bad line.
+/// What the first line of a text says, and what follows it; None for a bad line.
 #[tactic(auto, unfolding(crate::specs::HexLines::hex_line))]
 fn hex_line(alloc: Global, text: &[u8]) -> Result<Option<(Option<HexDatagram>, &[u8])>, AllocError>
     requires { 0 < length text.now }

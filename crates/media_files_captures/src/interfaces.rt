@@ -62,7 +62,7 @@ fn option_byte(most: usize, order: ByteOrder, code: u16, bytes: &[u8]) -> Option
     None
 }
 
-/// The resolution that an option says, and microseconds where there is none.
+/// The resolution that an option says, and microseconds if there is none.
 fn resolution_of(option: Option<u8>) -> Resolution
     ensures { result ≡ resolution_of option }
 {

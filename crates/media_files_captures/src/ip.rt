@@ -80,7 +80,7 @@ pub(crate) fn is_ipv6_fragment(next: u8, bytes: &[u8]) -> bool
     place / 8 != 0 || place % 2 != 0
 }
 
-/// The next header behind an extension header, and what stands there.
+/// The next header after an extension header, and what is there.
 #[tactic(auto, unfolding(crate::specs::Ip::extension))]
 fn extension(next: u8, bytes: &[u8]) -> Result<(u8, &[u8]), PassedOver>
     ensures { read_extension result ≡ extension next bytes.now }
@@ -138,7 +138,7 @@ fn carried(next: u8, bytes: &[u8]) -> Result<(u8, &[u8]), PassedOver>
     })
 }
 
-/// What stands after the extension headers of an IPv6 packet.
+/// What is after the extension headers of an IPv6 packet.
 #[tactic(auto, unfolding(crate::specs::Ip::ipv6_upper))]
 pub(crate) fn ipv6_upper(bytes: &[u8]) -> Result<(u8, &[u8]), PassedOver>
     requires { 40 ≤ length bytes.now }

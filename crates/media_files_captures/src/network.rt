@@ -25,7 +25,7 @@ fn is_tag(kind: u16) -> bool
     matches!(kind, 0x8100 | 0x88a8 | 0x9100)
 }
 
-/// The type behind all tags, and what follows it.
+/// The type after all tags, and what follows it.
 fn untagged(kind: u16, bytes: &[u8]) -> (u16, &[u8])
     ensures { extended result.0 result.1.now ≡ untagged kind bytes.now }
 {
@@ -89,7 +89,7 @@ pub(crate) fn network_packet(kind: u16, bytes: &[u8]) -> Result<(u16, &[u8]), Pa
     Ok((kind, packet))
 }
 
-/// The packet in a frame whose header has so many bytes, with the type of the packet at a place.
+/// The packet in a frame whose header has this many bytes, with the type of the packet at a place.
 fn typed_packet(frame: &[u8], kind_at: usize, header_len: usize) -> Result<(u16, &[u8]), PassedOver>
     requires { kind_at + 2 ≤ header_len }
     ensures { read_extension result
@@ -111,7 +111,7 @@ fn raw_packet(bytes: &[u8]) -> Result<(u16, &[u8]), PassedOver>
     Ok((kind_of_version(bytes[0] / 16), bytes))
 }
 
-/// The IP packet behind four bytes.
+/// The IP packet after four bytes.
 fn loopback_packet(frame: &[u8]) -> Result<(u16, &[u8]), PassedOver>
     ensures { read_extension result ≡ behind 4 frame.now (raw (drop 4 frame.now)) }
 {

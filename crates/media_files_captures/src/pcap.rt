@@ -92,7 +92,7 @@ fn ticks_per_second(digits: u8) -> u64
     }
 }
 
-/// The record in front of these bytes, and what stands behind it.
+/// The record in front of these bytes, and what follows it.
 #[tactic(auto, unfolding(crate::specs::Pcap::pcap_record))]
 fn pcap_record<'a>(header: PcapHeader, bytes: &'a [u8]) -> Option<(CapturedPacket<'a>, &'a [u8])>
     ensures value { read result ≡ pcap_record header bytes.now }

@@ -16,7 +16,7 @@ use std::alloc::{AllocError, Global};
 // The type of a section's header, the same in both byte orders.
 const SECTION: u32 = 0x0a0d_0d0a;
 
-// The number behind a section's length, in its byte order.
+// The number after a section's length, in its byte order.
 const BYTE_ORDER: u32 = 0x1a2b_3c4d;
 
 // The types of blocks that describe an interface, or have a packet.
@@ -35,7 +35,7 @@ pub struct PcapngBlock<'a> {
     pub order: ByteOrder,
     /// Its type.
     pub kind: u32,
-    /// What stands between its lengths.
+    /// What is between its lengths.
     pub body: &'a [u8],
 }
 
@@ -86,7 +86,7 @@ fn block_at<'a>(order: ByteOrder, bytes: &'a [u8]) -> Option<(PcapngBlock<'a>, P
     Some((block, behind))
 }
 
-/// The block in front of what is left, and where reading is behind it.
+/// The block in front of what is left, and where reading is after it.
 #[tactic(auto, unfolding(crate::specs::Pcapng::block))]
 fn block(reader: PcapngReader<'_>) -> Option<(PcapngBlock<'_>, PcapngReader<'_>)>
     ensures value { read_block result ≡ block (reader_shown reader.entry) }
@@ -98,7 +98,7 @@ fn block(reader: PcapngReader<'_>) -> Option<(PcapngBlock<'_>, PcapngReader<'_>)
     block_at(order_of(reader.order, reader.rest), reader.rest)
 }
 
-/// The packet of an interface whose bytes stand from a place on.
+/// The packet of an interface whose bytes are from a place on.
 fn packet_at<'a>(
     interface: &Interface,
     ticks: u64,

@@ -11,7 +11,7 @@ use std::alloc::Global;
 /// A datagram that a file holds.
 #[derive(Debug, Clone, Copy)]
 pub struct RtpdumpDatagram<'a> {
-    /// When it came, in milliseconds behind the start.
+    /// When it came, in milliseconds after the start.
     pub milliseconds: u32,
     /// How many bytes it had, if it is a packet of RTP; 0 for RTCP.
     pub rtp_len: u16,
@@ -24,7 +24,7 @@ pub struct RtpdumpDatagram<'a> {
 pub struct Rtpdump<'a> {
     /// Each datagram once.
     pub datagrams: Vec<RtpdumpDatagram<'a>>,
-    /// What stands behind the last datagram, and is none.
+    /// What follows the last datagram, and is none.
     pub unread: &'a [u8],
 }
 
@@ -36,7 +36,7 @@ fn line_len(file: &[u8]) -> Option<usize>
     file.iter().position(|byte| *byte == b'\n')
 }
 
-/// What stands behind the first line and the header.
+/// What follows the first line and the header.
 fn behind_line(file: &[u8]) -> Option<&[u8]>
     ensures { rest_seen result ≡ behind_line (position (λ b. b == 10) file.now) file.now }
 {
@@ -58,7 +58,7 @@ fn rtpdump_records(file: &[u8]) -> Option<&[u8]>
     behind_line(file)
 }
 
-/// The record in front of these bytes, and what stands behind it.
+/// The record in front of these bytes, and what follows it.
 #[tactic(auto, unfolding(crate::specs::Rtpdump::rtpdump_record))]
 fn rtpdump_record(bytes: &[u8]) -> Option<(RtpdumpDatagram<'_>, &[u8])>
     ensures value { read_datagram result ≡ rtpdump_record bytes.now }

@@ -17,7 +17,7 @@ pub(crate) struct Counts {
     pub(crate) damaged: u64,
     pub(crate) foreign: u64,
     pub(crate) units: u64,
-    /// The most packets that were held behind a reply, and how many are at the end.
+    /// The most packets that were held after a reply, and how many are at the end.
     pub(crate) most_held: u64,
     pub(crate) held: u64,
 }
@@ -110,7 +110,7 @@ fn extent(steps: &[Step]) -> (u64, u64) {
     extent.unwrap_or((0, 0))
 }
 
-/// The packets that are held behind a step, and where the last unit ended.
+/// The packets that are held after a step, and where the last unit ended.
 #[derive(Drop)]
 pub(crate) struct Holding {
     held: Vec<u64>,

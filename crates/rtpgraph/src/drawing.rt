@@ -35,7 +35,7 @@ pub(crate) fn draw(rt: &HostRuntime, steps: &[Step]) -> io::Result<()> {
 }
 
 impl Picture<'_> {
-    /// Draws a step, and how many packets are held behind it.
+    /// Draws a step, and how many packets are held after it.
     fn show(&mut self, rt: &HostRuntime, step: Step) -> io::Result<()> {
         match step {
             Step::Taken(number) if self.holding.is_passed(number) => {

@@ -1,4 +1,4 @@
-//! Where things stand in the picture, in units of its view box.
+//! Where things are in the picture, in units of its view box.
 
 pub(crate) const WIDTH: u64 = 1000;
 
@@ -28,7 +28,7 @@ pub(crate) fn share(length: u64, part: u64, whole: u64) -> u64 {
     share.unwrap_or(0).min(length)
 }
 
-/// The horizontal position of the reply with this index, out of so many.
+/// The horizontal position of the reply with this index, out of this many.
 pub(crate) fn x_of(index: u64, replies: u64) -> u64 {
     let part = index.saturating_mul(2).saturating_add(1);
     LEFT.saturating_add(share(RIGHT - LEFT, part, replies.saturating_mul(2)))

@@ -11,7 +11,7 @@ const STYLE: &str =
     .foreign{fill:#8a8a8a}.unit{fill:#2f6fde;fill-opacity:.65}.held{fill:#9aa7b5}\
     @media(prefers-color-scheme:dark){.back{fill:#161a1f}.ink{fill:#ddd}.grid{stroke:#30363d}}</style>";
 
-/// Draws what stands in front of the plots; the legend has the counts.
+/// Draws what is in front of the plots; the legend has the counts.
 pub(crate) fn draw_front(rt: &HostRuntime, counts: &Counts) -> io::Result<()> {
     println!(*rt;
         "<svg xmlns=\"http://www.w3.org/2000/svg\" viewBox=\"0 0 {WIDTH} {HEIGHT}\" width=\"{WIDTH}\" \

@@ -17,7 +17,7 @@ pub(crate) enum Step {
     Nothing,
 }
 
-/// The step of a line; None where it says nothing of a stream.
+/// The step of a line; None if it says nothing of a stream.
 pub(crate) fn step_of(line: &str) -> Option<Step> {
     let mut words = line.split_whitespace();
     let (word, first, second) = (words.next()?, words.next(), words.next());

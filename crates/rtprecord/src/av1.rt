@@ -71,7 +71,7 @@ fn level_and_tier(bits: &mut Bits<'_>, delay: Option<u8>, has_display: bool) -> 
     Some((level, tier))
 }
 
-/// Reads the operating points, and what stands before them.
+/// Reads the operating points, and what is before them.
 fn points(bits: &mut Bits<'_>) -> Option<Point> {
     let profile = bits.take(3)?;
     bits.skip(1)?;
@@ -156,7 +156,7 @@ fn sampling(bits: &mut Bits<'_>, profile: u32, is_twelve: bool) -> Option<(bool,
     }
 }
 
-/// Reads what stands in a sequence header after its OBU header.
+/// Reads what is in a sequence header after its OBU header.
 fn sequence_of(content: &[u8]) -> Option<Sequence> {
     let mut bits = Bits::new(content);
     let point = points(&mut bits)?;

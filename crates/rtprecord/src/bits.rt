@@ -21,7 +21,7 @@ impl<'a> Bits<'a> {
         Some(bit != 0)
     }
 
-    /// The next field of so many bits, of which the last 32 count.
+    /// The next field of this many bits, of which the last 32 count.
     pub(crate) fn take(&mut self, width: u8) -> Option<u32> {
         let mut number = 0u32;
         for _ in 0..width {

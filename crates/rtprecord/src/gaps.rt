@@ -37,7 +37,7 @@ impl Silence {
         }
     }
 
-    /// How many of the missing steps of so many ticks are filled, at so many ticks a second.
+    /// How many of the missing steps of this many ticks are filled, at so many ticks a second.
     fn fill(&mut self, missing: u32, step: u32, rate: u32) -> u32 {
         let most = self.longest.min(self.left).saturating_mul(rate as u64) / 1000;
         let steps = most.checked_div(step as u64).unwrap_or(0);

@@ -1,4 +1,4 @@
-//! Streams in one Matroska file, each as far behind the others as it began.
+//! Streams in one Matroska file, each as far after the others as it began.
 
 use crate::reports::SenderReport;
 use crate::stream::Stream;
@@ -88,7 +88,7 @@ fn set_begins(parts: &mut Vec<Part<'_>>, reports: &[SenderReport]) {
     }
 }
 
-/// How many ticks a unit is behind the first, if another is so many behind it and this has these 32 bits.
+/// How many ticks a unit is after the first, if another is so many after it and this has these 32 bits.
 fn next_ticks(previous: i64, from: u32, to: u32) -> i64 {
     let ahead = to.wrapping_sub(from) as i64;
     let behind = from.wrapping_sub(to) as i64;

@@ -229,7 +229,7 @@ impl Rows {
     }
 }
 
-/// Tells how many lines stand before a session text.
+/// Tells how many lines are before a session text.
 fn tell_passed_over(rt: &HostRuntime, name: &str, lines: usize) -> io::Result<()> {
     if lines == 0 {
         return Ok(());

@@ -8,7 +8,7 @@ const DISCARD: u16 = 9;
 /// A session text, cut into its sections.
 #[derive(Drop)]
 pub(crate) struct SessionText<'a> {
-    /// How many lines stand before the line `v=`, as what a program prints with it.
+    /// How many lines are before the line `v=`, as what a program prints with it.
     pub(crate) passed_over: usize,
     /// The lines of the session, then those of each section, from its line `m=` on.
     pub(crate) parts: Vec<Vec<&'a str>>,

@@ -101,7 +101,7 @@ fn skip_scaling(bits: &mut Bits<'_>, count: u32) -> Option<()> {
     Some(())
 }
 
-/// Passes over so many lists of so many scaling factors, each if it is there.
+/// Passes over so many lists of this many scaling factors, each if it is there.
 fn skip_lists(bits: &mut Bits<'_>, lists: u8, count: u32) -> Option<()> {
     for _ in 0..lists {
         if bits.flag()? {
@@ -111,7 +111,7 @@ fn skip_lists(bits: &mut Bits<'_>, lists: u8, count: u32) -> Option<()> {
     Some(())
 }
 
-/// The format of the colours in a set of sequence parameters, 1 where its profile has no other.
+/// The format of the colours in a set of sequence parameters, 1 if its profile has no other.
 fn chroma_format(bits: &mut Bits<'_>, profile: u32) -> Option<u32> {
     if !matches!(
         profile,

@@ -59,7 +59,7 @@ fn is_keyframe(extra: CodecExtra) -> bool {
 }
 
 impl Stream {
-    /// A stream of which nothing came; None where its codec has no payload format, or so many packets may not be held.
+    /// A stream of which nothing came; None if its codec has no payload format, or this many packets may not be held.
     pub(crate) fn new(
         alloc: Global,
         ssrc: Ssrc,

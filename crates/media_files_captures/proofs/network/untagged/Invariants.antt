@@ -2,7 +2,7 @@ use Rattle.std.proofs.Common.{◌≡◌, length}
 use Rattle.media_files_captures.specs.Network.{untagged}
 use Rattle.media_files_captures.proofs.network.untagged.Given as goal
 
--- what is left has what the whole has behind its tags
+-- what is left has what the whole has after its tags
 abbrev pub invariant-loop-kind : goal.invariant-loop-kind
 invariant-loop-kind l = untagged l.kind l.rest ≡ untagged l.fn.kind l.fn.bytes
 
