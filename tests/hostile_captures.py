@@ -39,7 +39,8 @@ def plain(datagram):
 
 
 def pcap(frames):
-    """A file of as many frames as there is room for, with the packets of the stream spread among them."""
+    """A file of as many frames as there is room for, after two packets of the stream, whose rest is spread among them:
+    a source of a single packet makes room for others."""
     kept, size = [], 24
     for frame in frames:
         size += 16 + len(frame)
@@ -47,7 +48,7 @@ def pcap(frames):
             break
         kept.append(frame)
     for number in range(10):
-        kept.insert((len(kept) + 1) * number // 10, plain(packet(number)))
+        kept.insert(number if number < 2 else (len(kept) + 1) * number // 10, plain(packet(number)))
     out = struct.pack("<IHHIIII", 0xA1B2C3D4, 2, 4, 0, 0, 65535, 1)
     return out + b"".join(struct.pack("<IIII", n // 100, n % 100, len(f), len(f)) + f for n, f in enumerate(kept))
 
