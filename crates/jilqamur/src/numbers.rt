@@ -70,8 +70,8 @@ pub extern "C" fn jilqamur_end_missing(
 }
 
 /// `OK` if a number of a receiving stream is passed: a unit with this number or one above it was handed out, or a
-/// frame with it was refused, so that a datagram of this number is of no use any more; `NOTHING` if it isn't. `NOT_MADE`
-/// without an end, `NO_STREAM` if no receiving stream has the number.
+/// frame with it was refused, so that a datagram of this number is of no use any more; `NOTHING` if it isn't.
+/// `NOT_MADE` without an end, `NO_STREAM` if no receiving stream has the number.
 #[unsafe(no_mangle)]
 pub extern "C" fn jilqamur_end_is_passed(end: &mut EndHandle, stream: usize, number: u64) -> u32
     ensures answer { AtObject (end_in end.old) (end_in end.new) result

@@ -52,8 +52,9 @@ fn told_of(info: &PacketInfo) -> WirePacketInfo
     }
 }
 
-/// Tells what a packet of the codec of this name, with this payload and marker bit, says of its frame, and returns `OK`.
-/// `NOT_TEXT` for a name that isn't UTF-8, `OUT_OF_RANGE` for one of no codec with a payload format, and nothing is told.
+/// Tells what a packet of the codec of this name, with this payload and marker bit, says of its frame, and returns
+/// `OK`. `NOT_TEXT` for a name that isn't UTF-8, `OUT_OF_RANGE` for one of no codec with a payload format, and nothing
+/// is told.
 #[unsafe(no_mangle)]
 pub extern "C" fn jilqamur_payload_info(
     codec: &[u8],

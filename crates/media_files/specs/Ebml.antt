@@ -18,8 +18,8 @@ element id bytes = id ++ (u64_be (2 ^ 56 + length bytes) ++ bytes)
 abbrev pub uint : List ℕ → ℕ → List ℕ
 uint id n = element id (u64_be n)
 
--- The bits of a double that is an integer (IEEE 754): doubled until it has 53 bits, of which the first isn't stored; the
--- exponent counts from 1,023, and is one lower for each doubling.
+-- The bits of a double that is an integer (IEEE 754): doubled until it has 53 bits, of which the first isn't stored;
+-- the exponent counts from 1,023, and is one lower for each doubling.
 unfoldable pub bits_from : ℕ → ℕ → ℕ
 bits_from zero n = 0
 bits_from (suc e) n =

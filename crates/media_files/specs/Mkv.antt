@@ -55,8 +55,8 @@ writers = element (0x4d ∷ (0x80 ∷ [])) (codes "media_files") ++ element (0x5
 unfoldable pub info : ℕ → List ℕ
 info duration = element (0x15 ∷ (0x49 ∷ (0xa9 ∷ (0x66 ∷ [])))) (clock_of duration ++ writers)
 
--- What a track carries (RFC 9559 5.1.4.1.28 and 29): 1 for video, with its width and height; 2 for audio, with samples a
--- second and channels.
+-- What a track carries (RFC 9559 5.1.4.1.28 and 29): 1 for video, with its width and height; 2 for audio, with samples
+-- a second and channels.
 abbrev pub kind_of : MkvMedia → ℕ
 kind_of (Video width height) = 1
 kind_of (Audio rate channels) = 2
@@ -98,8 +98,8 @@ unfoldable pub cluster : ℕ → List ℕ → List ℕ
 cluster second blocks =
     element (0x1f ∷ (0x43 ∷ (0xb6 ∷ (0x75 ∷ [])))) (uint (0xe7 ∷ []) (1000 * second) ++ blocks)
 
--- With a block of the next second, what is written of the blocks of the second before, and which of them stay in front of
--- it: those of another second are a cluster.
+-- With a block of the next second, what is written of the blocks of the second before, and which of them stay in front
+-- of it: those of another second are a cluster.
 abbrev pub closed : ℕ → ℕ → List ℕ → List ℕ
 closed second next before = if next == second then [] else cluster second before
 

@@ -16,9 +16,9 @@ pub struct PacketInfo {
     pub is_head: bool,
     /// Whether a frame ends with it.
     pub is_tail: bool,
-    /// Whether it shows that its frame is a key frame. VP8 and AV1 show it in the frame's first packet, VP9 in each one,
-    /// H.264, H.265 and H.266 in those that show a slice of the picture. VP9 doesn't tell an intra-only frame from a key
-    /// frame. Audio has no key frames: a receiver can begin with any packet.
+    /// Whether it shows that its frame is a key frame. VP8 and AV1 show it in the frame's first packet, VP9 in each
+    /// one, H.264, H.265 and H.266 in those that show a slice of the picture. VP9 doesn't tell an intra-only frame from
+    /// a key frame. Audio has no key frames: a receiver can begin with any packet.
     pub shows_key_frame: bool,
     /// The layers that it tells.
     pub layers: Layers,

@@ -1,5 +1,5 @@
-//! What a packet says of its frame, without the frame being put together: for whoever sends packets on, or looks for the
-//! first key frame of a stream.
+//! What a packet says of its frame, without the frame being put together: for whoever sends packets on, or looks for
+//! the first key frame of a stream.
 #![tactic(auto)]
 
 mod info;

@@ -1,6 +1,6 @@
 //! The media path between two ends: an `End` exchanges offer and answer texts, opens streams, turns samples into
-//! datagrams and datagrams into units. Browsers' texts, forwarding by packets and the program of lines are here too, and
-//! the RTP and SDP types that the calls use.
+//! datagrams and datagrams into units. Browsers' texts, forwarding by packets and the program of lines are here too,
+//! and the RTP and SDP types that the calls use.
 #![tactic(auto)]
 
 pub use media_types::Codec;

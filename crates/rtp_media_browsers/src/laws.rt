@@ -46,8 +46,8 @@ pub fn levels_law()
     ensures { TellsByLevels }
 {}
 
-/// Who opens the connection (RFC 5763 5, RFC 8842 5.2 and 5.3): only an offer may leave it to the other end, a role that
-/// was settled stays, and the two ends never have one role.
+/// Who opens the connection (RFC 5763 5, RFC 8842 5.2 and 5.3): only an offer may leave it to the other end, a role
+/// that was settled stays, and the two ends never have one role.
 pub fn roles_law()
     ensures { RolesFit }
 {}

@@ -41,8 +41,8 @@ pub record HaveExchanged (answer : List ℕ) (a b : EndState) : Type 0 where
   pub repairs_to : (mid : List ℕ) → own_repairs_of a.exchange.agreed mid ≡ remote_repairs_of b.exchange.agreed mid
   pub repairs_from : (mid : List ℕ) → own_repairs_of b.exchange.agreed mid ≡ remote_repairs_of a.exchange.agreed mid
 
--- What the three calls of an exchange say, on whichever machines they are made: `offer` of the offering end, `answer` of
--- the other one with the text that the first made, and `accept` with the answer's text.
+-- What the three calls of an exchange say, on whichever machines they are made: `offer` of the offering end, `answer`
+-- of the other one with the text that the first made, and `accept` with the answer's text.
 pub record HaveCalled (offer answer : List ℕ) (sections_a sections_b : List Wanted) (a b after_a after_b : EndState)
     : Type 0 where
   pub offers : SaysOffer offer sections_a

@@ -63,9 +63,9 @@ pub fn openings_law()
         (refusal_of_open_receiver end mid ssrc pt ≡ None) ↔ ReceivesAt end mid ssrc pt }
 {}
 
-/// Two ends on two machines have exchanged texts, which is what the headline asks for first, once one offered, the other
-/// answered that text, and the first accepted the answer: from what the three calls say, as [`connect`] says it of its
-/// own.
+/// Two ends on two machines have exchanged texts, which is what the headline asks for first, once one offered, the
+/// other answered that text, and the first accepted the answer: from what the three calls say, as [`connect`] says it
+/// of its own.
 ///
 /// [`connect`]: crate::connect
 pub fn exchanged_law()

@@ -18,10 +18,10 @@ ghost use Rattle.rtp_media_forward.specs.Relaying.{numbers_of, place_of, sent_on
 ghost use Rattle.rtp_media_forward.specs.declared.forwarder.Placed.{Placed};
 
 /// Packets that are sent on are datagrams of one stream, which sends the parts' samples with other times and values,
-/// whatever parts come later. Those that come are sent on as that stream's, each under its own number there, in whatever
-/// order they come and however often, late ones of earlier parts too (`sends`, `between`); no two datagrams get one number
-/// (`apart`). Once the last datagram of the last part was sent on, or the forwarder was told where it ends, the next
-/// number is the one after it (`next`, `ends`), and the
+/// whatever parts come later. Those that come are sent on as that stream's, each under its own number there, in
+/// whatever order they come and however often, late ones of earlier parts too (`sends`, `between`); no two datagrams
+/// get one number (`apart`). Once the last datagram of the last part was sent on, or the forwarder was told where it
+/// ends, the next number is the one after it (`next`, `ends`), and the
 /// forwarder goes over to a next part, of another source (`switches`) or of the same one (`skips`). Of too many pieces
 /// the oldest is forgotten (`keeps`).
 pub fn forwarding_laws()

@@ -11,7 +11,8 @@ use Rattle.rtp_media_forward.specs.Relayed.{Part, relayed}
 abbrev pub payloads_of : List SentSample → List Outgoing
 payloads_of ss = flat_map (λ s. all_outgoing s.packets s.time s.values) ss
 
--- All datagrams of parts that a stream sends on, numbered from here on, with values of its own for those of the sources.
+-- All datagrams of parts that a stream sends on, numbered from here on, with values of its own for those of the
+-- sources.
 abbrev pub virtual_datagrams : Sending → (ExtensionValues → ExtensionValues) → ℕ → List Part → List (List ℕ)
 virtual_datagrams s own first parts = datagrams_from s first (payloads_of (relayed own parts))
 

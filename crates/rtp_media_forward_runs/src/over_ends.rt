@@ -20,8 +20,8 @@ ghost use Rattle.rtp_media_forward_runs.specs.Hops.{values_by};
 ghost use Rattle.rtp_media_forward_runs.specs.ForwardedRuns.{HearsRelay, relay_of};
 
 /// A whole run at an end, of arrivals of datagrams that were sent on, repairs of them, other bytes and polls: if it is
-/// sane, what the polls answer is a legal selection of the units of the parts (`legal`), and where it is tame, and ends by a
-/// poll that answers None, exactly these (`exact`).
+/// sane, what the polls answer is a legal selection of the units of the parts (`legal`), and where it is tame, and ends
+/// by a poll that answers None, exactly these (`exact`).
 pub fn forwarded_runs_law()
     ensures legal { (e : EndState) (rx : ℕ) (holding : Holding) (s : Sending) (own : ExtensionValues → ExtensionValues)
         (first : ℕ) (parts : List Part) (schedule : List Event) →

@@ -23,11 +23,12 @@ ghost use Rattle.rtp_media_forward_runs.specs.Hops.{numbered_turns, receiver_of,
 
 use rtp_media_forward::{forwarding_laws, relayed_laws};
 
-/// Datagrams that `send_packet` makes of packets as a forwarder places them are, to the stream that receives them, those
-/// of one sender, byte for byte (`bytes`), which sends the samples of all parts with their times shifted and the values carried (`heard`); and
-/// so are those that were sent on between one switch and the next, one after the other (`joined`). Under every
-/// schedule of them that is sane by their numbers, some lost, repeated or out of order on either hop, the receiver's
-/// answers are a legal selection of the parts' units (`legal`), and under a tame one exactly these (`exact`).
+/// Datagrams that `send_packet` makes of packets as a forwarder places them are, to the stream that receives them,
+/// those of one sender, byte for byte (`bytes`), which sends the samples of all parts with their times shifted and the
+/// values carried (`heard`); and so are those that were sent on between one switch and the next, one after the other
+/// (`joined`). Under every schedule of them that is sane by their numbers, some lost, repeated or out of order on
+/// either hop, the receiver's answers are a legal selection of the parts' units (`legal`), and under a tame one exactly
+/// these (`exact`).
 pub fn hops_laws()
     ensures heard { (s : Sending) (holding : Holding) (own : ExtensionValues → ExtensionValues)
         (senders : ℕ → ℕ → Content) (first : ℕ) (before parts later : List Part) (f : Forwarding)

@@ -52,7 +52,8 @@ fn first_vp9_size(units: &[Unit]) -> Option<Size> {
     None
 }
 
-/// The track of AV1: what its first sequence header says, and that header (AV1 codec ISO media file format binding 2.3).
+/// The track of AV1: what its first sequence header says, and that header (AV1 codec ISO media file format binding
+/// 2.3).
 fn av1_track(alloc: Global, units: &[Unit]) -> Result<Option<Track>, AllocError> {
     for unit in units {
         if let Some((header, sequence)) = sequence_in(&unit.bytes) {

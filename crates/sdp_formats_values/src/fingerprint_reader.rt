@@ -59,8 +59,8 @@ fn read(alloc: Global, text: &str) -> Result<Fingerprint, Refusal>
 
 impl Fingerprint {
     /// The fingerprint of a text: a hash function's name up to the first blank, and the bytes of the digest with colons
-    /// between, each a number below 256 in hexadecimal digits. A byte may have a plus in front, and more or fewer than two
-    /// digits, which the reader of `a=fingerprint` refuses.
+    /// between, each a number below 256 in hexadecimal digits. A byte may have a plus in front, and more or fewer than
+    /// two digits, which the reader of `a=fingerprint` refuses.
     ///
     /// # Errors
     ///

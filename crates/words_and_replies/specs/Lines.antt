@@ -82,7 +82,8 @@ Missing old new = Refuses (passed old) (Some (codes "a word is missing")) new
 abbrev pub no_such_value : List ℕ → Option (List ℕ)
 no_such_value word = Some (codes "no such value ") ++? debug_str word
 
--- The value of a word, by a relation between texts and values; or the word is refused, and a placeholder value is used.
+-- The value of a word, by a relation between texts and values; or the word is refused, and some value is used that no
+-- answer shows.
 abbrev pub Reads : {T E : Type 0} → (List ℕ → Result T E → Type 0) → (T → Type 0) → List ℕ → LineState → T → LineState
     → Type 0
 Reads {T} {E} gives StandsForNone word old value new =

@@ -34,8 +34,8 @@ impl End {
     }
 
     /// Takes the number alone of a datagram that arrived at a receiving stream, and returns it widened; None if it
-    /// was taken before, or is 1,024 or more below the greatest one taken. For a datagram that is sent on: nothing waits
-    /// to be polled.
+    /// was taken before, or is 1,024 or more below the greatest one taken. For a datagram that is sent on: nothing
+    /// waits to be polled.
     ///
     /// # Conditions
     /// The number is that of a receiving stream: [`End::is_receiver`].
@@ -57,8 +57,8 @@ impl End {
     /// The number is that of a sending stream: [`End::is_sender`].
     ///
     /// # Errors
-    /// The first that holds of `AddsRedundancy`, `NumberTooLarge`, `NoPayload` and `LimitTooSmall`; or `Memory`. The end
-    /// is then unchanged.
+    /// The first that holds of `AddsRedundancy`, `NumberTooLarge`, `NoPayload` and `LimitTooSmall`; or `Memory`. The
+    /// end is then unchanged.
     pub fn send_packet(
         &mut self,
         stream: usize,

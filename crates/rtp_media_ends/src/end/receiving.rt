@@ -47,8 +47,8 @@ impl End {
         streams.receive_owned(datagram)
     }
 
-    /// Whether a number of a receiving stream is done with: a unit with this number or one above it was handed out, or a
-    /// frame with it was refused. A datagram of such a number is of no use any more.
+    /// Whether a number of a receiving stream is done with: a unit with this number or one above it was handed out, or
+    /// a frame with it was refused. A datagram of such a number is of no use any more.
     ///
     /// # Conditions
     /// The number is that of a receiving stream: [`End::is_receiver`].
@@ -77,8 +77,8 @@ impl End {
         streams.pass_to(stream, number);
     }
 
-    /// The missing numbers of a receiving stream, in increasing order: those after the last unit's, or, before any unit,
-    /// after the lowest packet that waits, that were not taken, below the greatest that was and within the replay
+    /// The missing numbers of a receiving stream, in increasing order: those after the last unit's, or, before any
+    /// unit, after the lowest packet that waits, that were not taken, below the greatest that was and within the replay
     /// window. These, and no others, are worth asking for (generic NACK, RFC 4585 6.2.1); they are at most 1,023.
     ///
     /// # Conditions
