@@ -1,8 +1,9 @@
 //! One depacketizer over all codecs.
 
 ghost use Rattle.h26x_payload.specs.Codings.{Settings, coding_of, first_settings, has_format, settings_of};
-ghost use Rattle.std.specs.Prelude.{◌≡◌, Bool, Contains, IfSome, None, false, is_some};
+ghost use Rattle.std.specs.Prelude.{◌≡◌, [], Bool, Contains, IfSome, None, false, is_some, length, unwrap_or};
 
+use crate::not_boxed::NotBoxed;
 use h26x_payload_formats::{H264Depacketizer, H265Depacketizer, H266Depacketizer};
 use media_types::Codec;
 use payload_core_audio::{
@@ -134,6 +135,22 @@ impl<B: Depacketizer> CodecDepacketizer<B> {
             CodecDepacketizer::H265(d) => d.with_donl(donl),
             CodecDepacketizer::H266(d) => d.with_donl(donl),
             _ => {}
+        }
+    }
+}
+
+impl CodecDepacketizer<NotBoxed> {
+    /// How many bytes the open fragment has, with a start code that will be written before it; 0 if none is open. Only
+    /// AV1, H.264, H.265 and H.266 have fragments that stay open after a unit.
+    pub fn fragment_len(&self) -> usize
+        ensures { result ≡ length (unwrap_or (⟦<CodecDepacketizer<NotBoxed> as Depacketizer>⟧.fragment self.now) []) }
+    {
+        match self {
+            CodecDepacketizer::Av1(d) => d.fragment_len(),
+            CodecDepacketizer::H264(d) => d.fragment_len(),
+            CodecDepacketizer::H265(d) => d.fragment_len(),
+            CodecDepacketizer::H266(d) => d.fragment_len(),
+            _ => 0,
         }
     }
 }

@@ -6,7 +6,7 @@ ghost use Rattle.h26x_payload_formats.specs.H264Reading.{shows_type, starts_type
 ghost use Rattle.h26x_payload_formats.specs.StapA.{refusal_of, stap_a_fault};
 ghost use Rattle.h26x_payload_units.specs.Aggregates.{aggregated, sized};
 ghost use Rattle.std.specs.List.{flat_map, list_any};
-ghost use Rattle.std.specs.Prelude.{◌≡◌, ◌≢◌, Err, IfErr, None, OnErr, OnOk, length};
+ghost use Rattle.std.specs.Prelude.{◌≡◌, ◌≢◌, [], Err, IfErr, None, OnErr, OnOk, length, unwrap_or};
 
 use crate::h264_constants::{IDR_NALU_TYPE, STAPA_NALU_LENGTH_SIZE};
 use crate::headers::{begun_header, kind_of, type_of};
@@ -156,6 +156,13 @@ impl H264Depacketizer {
             alloc,
             unit: OpenUnit::new(alloc),
         }
+    }
+
+    /// How many bytes the open fragment has, with its start code; 0 if none is open.
+    pub fn fragment_len(&self) -> usize
+        ensures { result ≡ length (unwrap_or self.now.unit []) }
+    {
+        self.unit.len()
     }
 
     /// What a packet gives.

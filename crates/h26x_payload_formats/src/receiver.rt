@@ -4,7 +4,7 @@ ghost use Rattle.h26x_payload_units.specs.Reading.{Adds, begins_by};
 ghost use Rattle.h26x_payload_formats.specs.Reading.{aggregated_in, corrupted, extra_of, given};
 ghost use Rattle.h26x_payload_formats.specs.Reading.{given_by, given_fragment, is_cut_short, h265_h266_format};
 ghost use Rattle.h26x_payload_formats.specs.Reading.{shows_irap, was_keyframe};
-ghost use Rattle.std.specs.Prelude.{◌≡◌, ◌≢◌, Err, IfErr, None, OnErr, OnOk, false};
+ghost use Rattle.std.specs.Prelude.{◌≡◌, ◌≢◌, [], Err, IfErr, None, OnErr, OnOk, false, length, unwrap_or};
 
 use crate::codecs::H265OrH266;
 use crate::keyframes::shows_irap;
@@ -106,6 +106,13 @@ impl<L: H265OrH266> H265OrH266Depacketizer<L> {
             donl: false,
             unit: OpenUnit::new(alloc),
         }
+    }
+
+    /// How many bytes the open fragment has, with its start code; 0 if none is open.
+    pub fn fragment_len(&self) -> usize
+        ensures { result ≡ length (unwrap_or self.now.unit []) }
+    {
+        self.unit.len()
     }
 
     /// Whether packets from now on have decoding order numbers, as `sprop-max-don-diff` above 0 says (RFC 7798 7.1,

@@ -1,7 +1,7 @@
 //! Units that are put together from fragments, and the start code that each unit is written after.
 
 ghost use Rattle.h26x_payload_units.specs.Fragments.{behind_code, continued, open_after, put_behind, written_at};
-ghost use Rattle.std.specs.Prelude.{◌++◌, ◌≡◌, IfOk, None, OnErr, OnOk, true};
+ghost use Rattle.std.specs.Prelude.{◌++◌, ◌≡◌, [], IfOk, None, OnErr, OnOk, length, true, unwrap_or};
 
 use std::alloc::{AllocError, Global};
 use std::marker::Model;
@@ -87,6 +87,16 @@ impl OpenUnit {
         ensures { result ≡ None }
     {
         OpenUnit { alloc, bytes: None }
+    }
+
+    /// How many bytes it has, with its start code; 0 if there is none.
+    pub fn len(&self) -> usize
+        ensures { result ≡ length (unwrap_or self.now []) }
+    {
+        match &self.bytes {
+            Some(bytes) => bytes.len(),
+            None => 0,
+        }
     }
 
     /// Takes a fragment: with `is_start` it begins a unit with this header, whatever was open; else it goes on with

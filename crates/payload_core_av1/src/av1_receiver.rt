@@ -4,7 +4,7 @@ ghost use Rattle.payload_core_av1.specs.Av1Reading.{av1_format, begun, has_y, ha
 ghost use Rattle.payload_core_av1.specs.Av1Reading.{was_keyframe};
 ghost use Rattle.payload_core_av1.specs.Av1ReadingViews.{beside, fresh, Gathers, given_of, Keeps, opened_of};
 ghost use Rattle.std.specs.Prelude.{[], ◌∷◌, ◌≡◌, ◌≢◌, ◌<◌, IfErr, IfOk, OnErr, OnOk, None, map};
-ghost use Rattle.std.specs.Prelude.{option_map, length, true};
+ghost use Rattle.std.specs.Prelude.{option_map, length, true, unwrap_or};
 
 use crate::av1_elements::{are_units, complete, elements_of, give_and_open, give_joined};
 use payload_core_base::{Av1CodecExtra, CodecExtra, Depacketizer, PacketError, has_bit};
@@ -56,6 +56,16 @@ impl Av1Depacketizer {
             alloc,
             fragment: None,
             spare: Vec::new(alloc),
+        }
+    }
+
+    /// How many bytes the open fragment has; 0 if none is open.
+    pub fn fragment_len(&self) -> usize
+        ensures { result ≡ length (unwrap_or (option_map (λ v. v.items) self.now.fragment) []) }
+    {
+        match &self.fragment {
+            Some(fragment) => fragment.len(),
+            None => 0,
         }
     }
 

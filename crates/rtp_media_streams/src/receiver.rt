@@ -130,22 +130,25 @@ fn record(window: &mut Option<SeqNoWindow>, number: SeqNo)
     }
 }
 
-/// Holds a datagram's payload under a number; the only refusal is lack of memory, which hands the datagram back.
+/// Holds a part of these bytes as a datagram's payload under a number; the only refusal is lack of memory, which hands
+/// the bytes back.
 fn hold(
     buffer: &mut DepacketizingBuffer<CodecDepacketizer<NotBoxed>>,
     number: SeqNo,
     arrival: &Arrival,
-    datagram: Vec<u8>,
+    bytes: Vec<u8>,
+    start: usize,
+    end: usize,
 ) -> Result<(), AllocFailed<Vec<u8>>>
-    requires in_order { arrival.now.start ≤ arrival.now.end }
-    requires within { arrival.now.end ≤ vec_len datagram }
+    requires in_order { start ≤ end }
+    requires within { end ≤ vec_len bytes }
     ensures held { OnOk result (buffer.new ≡ record buffer.old {
       held = pushed buffer.old.holding.held buffer.old.cutoff buffer.old.held
           (packet_of number (content_of arrival.now.time arrival.now.marker arrival.now.ext_vals
-          (slice_range datagram.items arrival.now.start arrival.now.end)));
+          (slice_range bytes.items start end)));
     }) }
     ensures unchanged { OnErr result (buffer.new ≡ buffer.old) }
-    ensures handed_back { IfErr result (λ e. e.value ≡ datagram) }
+    ensures handed_back { IfErr result (λ e. e.value ≡ bytes) }
 {
     let meta = RtpMeta {
         seq_no: number,
@@ -153,7 +156,7 @@ fn hold(
         marker: arrival.marker,
         ext_vals: arrival.ext_vals,
     };
-    buffer.push_range(meta, datagram, arrival.start, arrival.end)
+    buffer.push_range(meta, bytes, start, end)
 }
 
 /// What the buffer handed out, as a poll says it.
@@ -255,8 +258,8 @@ impl ReceivingStream {
     }
 
     /// Takes one datagram of its own in, and returns its widened number; None if that is refused. The payload may be
-    /// empty: it is then held as any other, and its format says at a poll what it makes of it. The datagram is copied
-    /// once, if its number is new.
+    /// empty: it is then held as any other, and its format says at a poll what it makes of it. The payload alone is
+    /// copied, once, if its number is new.
     ///
     /// # Conditions
     /// The payload's place is within the datagram.
@@ -280,8 +283,9 @@ impl ReceivingStream {
         if !accepts(&self.window, number) {
             return Ok(None);
         }
-        let datagram = Vec::from_slice(self.alloc, datagram)?;
-        hold(&mut self.buffer, number, arrival, datagram)?;
+        let payload = Vec::from_slice(self.alloc, &datagram[arrival.start..arrival.end])?;
+        let end = payload.len();
+        hold(&mut self.buffer, number, arrival, payload, 0, end)?;
         record(&mut self.window, number);
         Ok(Some(number))
     }
@@ -311,7 +315,14 @@ impl ReceivingStream {
         if !accepts(&self.window, number) {
             return Ok(None);
         }
-        hold(&mut self.buffer, number, arrival, datagram)?;
+        hold(
+            &mut self.buffer,
+            number,
+            arrival,
+            datagram,
+            arrival.start,
+            arrival.end,
+        )?;
         record(&mut self.window, number);
         Ok(Some(number))
     }

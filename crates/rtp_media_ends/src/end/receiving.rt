@@ -1,10 +1,12 @@
 //! Datagrams that come, and the units that are ready.
 
-ghost use Rattle.std.specs.Prelude.{◌≡◌, true, OnOk, OnErr, IfErr, IfOk};
+ghost use Rattle.std.specs.Prelude.{◌≡◌, ◌≤◌, true, OnOk, OnErr, IfErr, IfOk};
 ghost use Rattle.payload_core_buffer.specs.Steps.{AnswersBy};
 ghost use Rattle.rtp_media_streams.specs.Polls.{IsPolled, IsPolledSome, drain_step, found, poll_step};
 ghost use Rattle.rtp_media_ends.specs.EndArrivals.{verdict_of, after_datagram};
 ghost use Rattle.payload_core_buffer.specs.Buffered.{is_done};
+ghost use Rattle.payload_core_buffer.specs.Sizes.{bytes_of};
+ghost use Rattle.rtp_media_streams.specs.Limits.{fragment_len, is_next, kept_within, passed_empty};
 ghost use Rattle.rtp_media_streams.specs.Missing.{missing};
 ghost use Rattle.rtp_media_streams.specs.Passing.{passed_to};
 ghost use Rattle.rtp_media_streams.specs.Receiving.{with_stream};
@@ -75,6 +77,42 @@ impl End {
     {
         let streams = &mut self.streams;
         streams.pass_to(stream, number);
+    }
+
+    /// Tells a receiving stream that a number carries nothing for it, as one of padding alone (RFC 3550 5.1), or of
+    /// another payload type of its SSRC, and is done with it if it is the next after the last that is done with: no
+    /// frame then waits for it. Returns whether it was; if not, it may be told again after the next unit.
+    ///
+    /// # Conditions
+    /// The number is that of a receiving stream: [`End::is_receiver`].
+    pub fn pass_empty(&mut self, stream: usize, number: SeqNo) -> bool
+        requires { is_receiver_at self.old stream ≡ true }
+        ensures passed { result ≡ is_next (receiver_at self.old stream).stream.cutoff number }
+        ensures after { self.new ≡ with_receiver self.old stream (with_stream (receiver_at self.old stream)
+            (passed_empty number (receiver_at self.old stream).stream)) }
+    {
+        let streams = &mut self.streams;
+        streams.pass_empty(stream, number)
+    }
+
+    /// Gives memory of a receiving stream back: of the packets that wait those with the highest numbers stay, whose
+    /// payloads have at most `bytes` bytes together, and the stream is done with the numbers below them. A fragment that
+    /// is open between units is given up if any packet went, or if it has more bytes.
+    ///
+    /// A call each time so many bytes came in keeps the stream within twice as many, whatever a peer sends; it looks at
+    /// each packet that waits.
+    ///
+    /// # Conditions
+    /// The number is that of a receiving stream: [`End::is_receiver`].
+    pub fn keep_within(&mut self, stream: usize, bytes: usize)
+        requires { is_receiver_at self.old stream ≡ true }
+        ensures after { self.new ≡ with_receiver self.old stream (with_stream (receiver_at self.old stream)
+            (kept_within bytes (receiver_at self.old stream).stream)) }
+        ensures packets { bytes_of (receiver_at self.new stream).stream.held ≤ bytes }
+        ensures fragment { fragment_len (receiver_at self.new stream).stream.fragment ≤ bytes }
+    {
+        let streams = &mut self.streams;
+        streams.keep_within(stream, bytes);
     }
 
     /// The missing numbers of a receiving stream, in increasing order: those after the last unit's, or, before any

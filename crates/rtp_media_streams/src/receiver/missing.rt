@@ -1,7 +1,9 @@
 //! Numbers that a receiving stream misses, and those that it shall not wait for.
 
-ghost use Rattle.std.specs.Prelude.{◌≡◌, IfOk};
+ghost use Rattle.std.specs.Prelude.{◌≡◌, ◌≤◌, IfOk};
 ghost use Rattle.payload_core_buffer.specs.Buffered.{is_done};
+ghost use Rattle.payload_core_buffer.specs.Sizes.{bytes_of};
+ghost use Rattle.rtp_media_streams.specs.Limits.{fragment_len, is_next, kept_within, passed_empty};
 ghost use Rattle.rtp_media_streams.specs.Missing.{is_awaited, missing, missing_in};
 ghost use Rattle.rtp_media_streams.specs.Passing.{passed_to};
 ghost use Rattle.rtp_media_streams.specs.Receiving.{with_stream};
@@ -65,6 +67,36 @@ impl ReceivingStream {
         self.buffer.pass_to(number);
         let depacketizer = depacketizer_for(self.alloc, &self.row);
         self.buffer.set_depacketizer(depacketizer);
+    }
+
+    /// Is told that a number carries nothing for this stream, as one of padding alone (RFC 3550 5.1), or of another
+    /// payload type of its SSRC, and is done with it if it is the next after the last that is done with: no frame then
+    /// waits for it. Returns whether it was; if not, it may be told again after the next unit.
+    pub fn pass_empty(&mut self, number: SeqNo) -> bool
+        ensures passed { result ≡ is_next self.old.stream.cutoff number }
+        ensures after { self.new ≡ with_stream self.old (passed_empty number self.old.stream) }
+    {
+        match self.buffer.cutoff() {
+            Some(cutoff) if cutoff.is_next(number) => {
+                self.pass_to(number);
+                true
+            }
+            _ => false,
+        }
+    }
+
+    /// Gives memory back: of the packets that wait those with the highest numbers stay, whose payloads have at most
+    /// `bytes` bytes together, and it is done with the numbers below them; a fragment that is open between units is given
+    /// up if any packet went, or if it has more bytes. It looks at each packet that waits, at most `held`.
+    pub fn keep_within(&mut self, bytes: usize)
+        ensures after { self.new ≡ with_stream self.old (kept_within bytes self.old.stream) }
+        ensures packets { bytes_of self.new.stream.held ≤ bytes }
+        ensures fragment { fragment_len self.new.stream.fragment ≤ bytes }
+    {
+        if self.buffer.keep_within(bytes) || self.buffer.depacketizer().fragment_len() > bytes {
+            let depacketizer = depacketizer_for(self.alloc, &self.row);
+            self.buffer.set_depacketizer(depacketizer);
+        }
     }
 
     /// The missing numbers, in increasing order: those after the last unit's, or, before any unit, after the lowest
