@@ -10,7 +10,7 @@ use Rattle.rtp_media_ends.specs.Ends.{carried_row, receiver_refusal_in, refusal_
 use Rattle.rtp_media_stream_table.specs.Streams.{receives_as}
 use Rattle.rtp_media_ends.specs.Ends.{sender_refusal_in}
 use Rattle.rtp_media_stream_table.specs.Streams.{sends_as}
-use Rattle.rtp_media_ends.specs.Ends.{types_of}
+use Rattle.rtp_media_ends.specs.Ends.{may_be_sent, types_of, unsignalled_refusal_in}
 
 pub row-agreed : (agreed : List Agreed) (mid : List ℕ) (pt : ℕ) (a : Agreed) (row : Row)
     → section_of agreed mid ≡ Some a → row_in a.rows pt ≡ Some row → agreed_row_of agreed mid pt ≡ Some row
@@ -32,4 +32,13 @@ pub receiver-refusal : (own : List Row) (agreed : List Agreed) (streams : List O
     ≡ list_any (receives_as ssrc (types_of row ssrc a.remote_repairs)) streams →
     receiver_refusal_in own (section_of agreed mid) streams ssrc pt ≡ refusal_by agrees flows names is_open
 receiver-refusal own agreed streams mid ssrc pt a row agrees flows names is_open s r g f n o =
+    rw (s, r, g, f, n, o) refl
+
+pub unsignalled-refusal : (own : List Row) (agreed : List Agreed) (streams : List OpenStream) (mid : List ℕ)
+    (ssrc pt : ℕ) (a : Agreed) (row : Row) (agrees flows names is_open : Bool) →
+    section_of agreed mid ≡ Some a → carried_row a pt ≡ Some row → agrees ≡ own_row_agrees own row
+    → flows ≡ a.receives → names ≡ may_be_sent a.remote_ssrcs ssrc → is_open
+    ≡ list_any (receives_as ssrc (types_of row ssrc a.remote_repairs)) streams →
+    unsignalled_refusal_in own (section_of agreed mid) streams ssrc pt ≡ refusal_by agrees flows names is_open
+unsignalled-refusal own agreed streams mid ssrc pt a row agrees flows names is_open s r g f n o =
     rw (s, r, g, f, n, o) refl

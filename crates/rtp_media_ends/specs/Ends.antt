@@ -167,6 +167,27 @@ unfoldable pub refusal_of_open_receiver : EndState → List ℕ → ℕ → ℕ 
 refusal_of_open_receiver e mid ssrc pt =
     receiver_refusal_in e.exchange.config.rows (section_of e.exchange.agreed mid) e.streams ssrc pt
 
+-- Whether datagrams of an SSRC may be those of a section's sender: it names the SSRC, or none, as one whose streams
+-- `a=rid` alone tells apart (RFC 8853 6.1).
+abbrev pub may_be_sent : List ℕ → ℕ → Bool
+may_be_sent [] ssrc = true
+may_be_sent (named ∷ rest) ssrc = is_named (named ∷ rest) ssrc
+
+abbrev pub unsignalled_refusal_of : List Row → Agreed → List OpenStream → ℕ → ℕ → Option Row → Option OpenError
+unsignalled_refusal_of own a streams ssrc pt None = Some (refusal_of_row (row_in a.rows pt))
+unsignalled_refusal_of own a streams ssrc pt (Some row) =
+    refusal_by (own_row_agrees own row) a.receives (may_be_sent a.remote_ssrcs ssrc)
+    (list_any (receives_as ssrc (types_of row ssrc a.remote_repairs)) streams)
+
+abbrev pub unsignalled_refusal_in : List Row → Option Agreed → List OpenStream → ℕ → ℕ → Option OpenError
+unsignalled_refusal_in own None streams ssrc pt = Some NoSection
+unsignalled_refusal_in own (Some a) streams ssrc pt = unsignalled_refusal_of own a streams ssrc pt (carried_row a pt)
+
+-- Why `open_unsignalled` is refused, not counting lack of memory.
+unfoldable pub refusal_of_open_unsignalled : EndState → List ℕ → ℕ → ℕ → Option OpenError
+refusal_of_open_unsignalled e mid ssrc pt =
+    unsignalled_refusal_in e.exchange.config.rows (section_of e.exchange.agreed mid) e.streams ssrc pt
+
 -- The map of header extensions of a new stream: the agreed one.
 abbrev pub stream_map : EndState → List ℕ → Numbering
 stream_map e mid = unwrap_or (agreed_map_of e.exchange.agreed mid) empty_map

@@ -10,6 +10,7 @@ ghost use Rattle.payload_core_buffer.specs.Buffered.{holding_of, may_hold};
 ghost use Rattle.rtp_media_ends.specs.Ends.{agreed_red, end_of, is_carried, new_receiver, new_sender};
 ghost use Rattle.rtp_media_stream_table.specs.Streams.{receives_as};
 ghost use Rattle.rtp_media_ends.specs.Ends.{refusal_of_open_receiver, refusal_of_open_sender};
+ghost use Rattle.rtp_media_ends.specs.Ends.{refusal_of_open_unsignalled};
 ghost use Rattle.rtp_media_ends.specs.Ends.{row_sender, with_distances};
 ghost use Rattle.rtp_media_stream_table.specs.Streams.{sends_as};
 ghost use Rattle.rtp_media_ends.specs.FullArrival.{IsSender};
@@ -17,7 +18,7 @@ ghost use Rattle.rtp_media_ends.specs.Params.{IsSound};
 ghost use Rattle.rtp_wire.specs.Maps.{empty_map};
 
 use crate::errors::OpenError;
-use crate::openings::{receiver_row, sender_row};
+use crate::openings::{receiver_row, sender_row, unsignalled_row};
 use crate::params::{Distances, StreamParams};
 use crate::rows::row_format_of;
 use h26x_payload::codec_law;
@@ -88,6 +89,37 @@ pub fn new_receiver(
         → refusal_of_open_receiver (end_of exchange.now streams.now) mid ssrc pt ≡ Some e) }
 {
     let (row, types) = receiver_row(exchange, streams, mid, ssrc, pt)?;
+    let exts = exts_of(alloc, exchange, mid)?;
+    let format = row_format_of(&row);
+    Ok(ReceivingStream::new(alloc, ssrc, types, exts, format, hold_back, held))
+}
+
+/// The receiving stream of this SSRC, which the section's sender names unless it names none, as [`new_receiver`].
+///
+/// # Conditions
+/// `held` is 4,096 to 16,384.
+///
+/// # Errors
+/// As [`new_receiver`], with `SsrcNotNamed` only if the section's sender names SSRCs, and not this one.
+pub fn new_unsignalled(
+    alloc: Global,
+    exchange: &Exchange,
+    streams: &StreamTable,
+    mid: Mid,
+    ssrc: Ssrc,
+    pt: Pt,
+    hold_back: usize,
+    held: usize,
+) -> Result<ReceivingStream, OpenError>
+    requires { may_hold held ≡ true }
+    ensures stream { IfOk result (λ r. r ≡ new_receiver (end_of exchange.now streams.now) mid ssrc pt
+        (holding_of hold_back held)) }
+    ensures apart { IfOk result (λ r. list_any (receives_as r.ssrc r.types) streams.now ≡ false) }
+    ensures opens { OnOk result (refusal_of_open_unsignalled (end_of exchange.now streams.now) mid ssrc pt ≡ None) }
+    ensures refused { IfErr result (λ e. e ≢ OpenError.Memory
+        → refusal_of_open_unsignalled (end_of exchange.now streams.now) mid ssrc pt ≡ Some e) }
+{
+    let (row, types) = unsignalled_row(exchange, streams, mid, ssrc, pt)?;
     let exts = exts_of(alloc, exchange, mid)?;
     let format = row_format_of(&row);
     Ok(ReceivingStream::new(alloc, ssrc, types, exts, format, hold_back, held))

@@ -7,7 +7,8 @@ ghost use Rattle.rtp_media_sections.specs.Agreement.{section_of};
 ghost use Rattle.rtp_media_ends.specs.Repairs.{IsKeyBeside};
 ghost use Rattle.rtp_media_ends.specs.Ends.{carried_row, end_of, is_carried, refusal_by};
 ghost use Rattle.rtp_media_stream_table.specs.Streams.{receives_as};
-ghost use Rattle.rtp_media_ends.specs.Ends.{refusal_of_open_receiver, refusal_of_open_sender, refusal_of_row};
+ghost use Rattle.rtp_media_ends.specs.Ends.{may_be_sent, refusal_of_open_receiver, refusal_of_open_sender};
+ghost use Rattle.rtp_media_ends.specs.Ends.{refusal_of_open_unsignalled, refusal_of_row};
 ghost use Rattle.rtp_media_stream_table.specs.Streams.{sends_as};
 ghost use Rattle.rtp_media_ends.specs.Ends.{types_of};
 
@@ -84,6 +85,46 @@ pub(crate) fn receiver_row(
         None => Ok((row, types)),
         Some(refusal) => Err(refusal),
     }
+}
+
+/// The row that a new receiving stream takes in a section that names its SSRC or none, and its types, or why there is
+/// none.
+#[tactic(auto, unfolding(crate::specs::Ends::refusal_of_open_unsignalled))]
+pub(crate) fn unsignalled_row(
+    exchange: &Exchange,
+    streams: &StreamTable,
+    mid: Mid,
+    ssrc: Ssrc,
+    pt: Pt,
+) -> Result<(PayloadParams, PayloadTypes), OpenError>
+    ensures row { IfOk result (λ r. agreed_row_of exchange.now.agreed mid pt ≡ Some r.0) }
+    ensures carried { IfOk result (λ r. is_carried r.0 ≡ true) }
+    ensures types { IfOk result (λ r. r.1 ≡ types_of r.0 ssrc (remote_repairs_of exchange.now.agreed mid)) }
+    ensures opens { OnOk result (refusal_of_open_unsignalled (end_of exchange.now streams.now) mid ssrc pt ≡ None) }
+    ensures apart { IfOk result (λ r. list_any (receives_as ssrc r.1) streams.now ≡ false) }
+    ensures refused { IfErr result (λ e. refusal_of_open_unsignalled (end_of exchange.now streams.now) mid ssrc pt
+        ≡ Some e) }
+{
+    let section = section_named(exchange, mid)?;
+    let row = carried_row(section, pt)?;
+    let types = types_of(&row, ssrc, section.remote_repair_of(ssrc));
+    let refusal = opening_refusal(
+        exchange.agrees_with(&row),
+        section.is_receiving(),
+        may_be_sent(section, ssrc),
+        streams.could_receive(ssrc, &types),
+    );
+    match refusal {
+        None => Ok((row, types)),
+        Some(refusal) => Err(refusal),
+    }
+}
+
+/// Whether the section's sender names this SSRC, or none.
+fn may_be_sent(section: &AgreedSection, ssrc: Ssrc) -> bool
+    ensures { result ≡ may_be_sent section.now.remote_ssrcs ssrc }
+{
+    section.remote_ssrcs().is_empty() || section.names_remote(ssrc)
 }
 
 /// Why no stream can be opened for a section's row: the first reason that applies.
