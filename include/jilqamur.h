@@ -566,6 +566,12 @@ uint32_t jilqamur_end_open_sender(jilqamur_end *end, const uint8_t *mid, size_t 
 uint32_t jilqamur_end_open_receiver(jilqamur_end *end, const uint8_t *mid, size_t mid_len, uint32_t ssrc,
                                     uint8_t payload_type, size_t hold_back, size_t held, size_t *stream);
 
+/* Opens a receiving stream as jilqamur_end_open_receiver, in a section whose sender names this SSRC or no SSRC at all,
+ * as one whose simulcast streams a=rid alone tells apart (RFC 8853 6.1): the SSRC is that of a datagram that came and
+ * was JILQAMUR_FOREIGN. JILQAMUR_SSRC_NOT_NAMED if the section names SSRCs, and not this one. */
+uint32_t jilqamur_end_open_unsignalled(jilqamur_end *end, const uint8_t *mid, size_t mid_len, uint32_t ssrc,
+                                       uint8_t payload_type, size_t hold_back, size_t held, size_t *stream);
+
 /* The values of header extensions (RFC 8285), but the names of sections and streams. One that is not given is not
  * looked at where a sample is sent, and is 0 or false in values that were read. */
 typedef struct jilqamur_values {
@@ -718,6 +724,18 @@ uint32_t jilqamur_end_is_passed(jilqamur_end *end, size_t stream, uint64_t numbe
  * at once after a loss that nobody repairs, and gives back what it holds. A number that is passed already changes
  * nothing. JILQAMUR_NOT_MADE without an end, JILQAMUR_NO_STREAM. */
 uint32_t jilqamur_end_pass_to(jilqamur_end *end, size_t stream, uint64_t number);
+
+/* Tells a receiving stream that a number carries nothing for it, as one of padding alone (RFC 3550 5.1), or of another
+ * payload type of its SSRC. JILQAMUR_OK if it was the next after the last that is passed, and is now passed, so that no
+ * frame waits for it; JILQAMUR_NOTHING if not, and it may be told again after the next unit. JILQAMUR_NOT_MADE without an
+ * end, JILQAMUR_NO_STREAM. */
+uint32_t jilqamur_end_pass_empty(jilqamur_end *end, size_t stream, uint64_t number);
+
+/* Gives memory of a receiving stream back: of the packets that wait those with the highest numbers stay, whose payloads
+ * have at most so many bytes together, and the numbers below them are passed; a fragment that is open between units is
+ * given up if any packet went, or if it has more bytes. A call each time so many bytes came in keeps the stream within
+ * twice as many, whatever a peer sends. JILQAMUR_NOT_MADE without an end, JILQAMUR_NO_STREAM. */
+uint32_t jilqamur_end_keep_within(jilqamur_end *end, size_t stream, size_t bytes);
 
 /* Tells the number that the next datagram of a sending stream's samples gets. JILQAMUR_NOT_MADE without an end,
  * JILQAMUR_NO_STREAM. */

@@ -115,6 +115,8 @@ static void open_streams(jilqamur_end *a, jilqamur_end *b)
     printf("sender %zu\n", stream);
     say("receiver", jilqamur_end_open_receiver(b, JILQAMUR_TEXT("a"), 10, 7, 2, JILQAMUR_MIN_HELD, &stream));
     say("receiver", jilqamur_end_open_receiver(b, JILQAMUR_TEXT("a"), 10, 111, 2, 1, &stream));
+    say("unsignalled", jilqamur_end_open_unsignalled(b, JILQAMUR_TEXT("a"), 10, 111, 2, 1, &stream));
+    say("unsignalled", jilqamur_end_open_unsignalled(b, JILQAMUR_TEXT("a"), 99, 111, 2, JILQAMUR_MIN_HELD, &stream));
     check(jilqamur_end_open_receiver(b, JILQAMUR_TEXT("a"), 10, 111, 2, JILQAMUR_MIN_HELD, &stream));
     printf("receiver %zu\n", stream);
     check(jilqamur_end_open_receiver(b, JILQAMUR_TEXT("v"), 11, 96, 2, JILQAMUR_MIN_HELD, &stream));
@@ -259,6 +261,11 @@ static void say_passed(jilqamur_end *end, uint64_t number)
     printf("passed %" PRIu64 ": %d\n", number, jilqamur_end_is_passed(end, 0, number) == JILQAMUR_OK);
 }
 
+static void say_empty(jilqamur_end *end, uint64_t number)
+{
+    printf("empty %u: %d\n", (unsigned)number, jilqamur_end_pass_empty(end, 0, number) == JILQAMUR_OK);
+}
+
 /* Numbers that a sender leaves out, and a receiver misses and passes. */
 static void numbers(jilqamur_end *a, jilqamur_end *b)
 {
@@ -281,6 +288,10 @@ static void numbers(jilqamur_end *a, jilqamur_end *b)
     check(jilqamur_end_pass_to(b, 0, 505));
     say_poll(b, 0, false);
     say_passed(b, 507);
+    say_empty(b, 507);
+    say_empty(b, 509);
+    say_passed(b, 507);
+    say("keep", jilqamur_end_keep_within(b, 0, 0));
 }
 
 /* Streams that are closed, and calls at none. */
@@ -297,6 +308,8 @@ static void close_streams(jilqamur_end *a, jilqamur_end *b)
     say("missing", jilqamur_end_missing(b, 0, &number, 1, &count));
     say("passed", jilqamur_end_is_passed(b, 0, 1));
     say("pass", jilqamur_end_pass_to(b, 0, 1));
+    say("empty", jilqamur_end_pass_empty(b, 0, 1));
+    say("keep", jilqamur_end_keep_within(b, 0, 1));
     say_poll(b, 0, false);
 }
 

@@ -83,6 +83,7 @@ static void of_ends(void)
     SAY(jilqamur_end_agreed_ssrc(&end, 0, 0, &word));
     SAY(jilqamur_end_open_sender(&end, JILQAMUR_TEXT("0"), 1, 111, &stream, JILQAMUR_TEXT(""), &size));
     SAY(jilqamur_end_open_receiver(&end, JILQAMUR_TEXT("0"), 1, 111, 2, JILQAMUR_MIN_HELD, &size));
+    SAY(jilqamur_end_open_unsignalled(&end, JILQAMUR_TEXT("0"), 1, 111, 2, JILQAMUR_MIN_HELD, &size));
     SAY(jilqamur_end_push_sample(&end, 0, 0, &values, JILQAMUR_TEXT(""), datagram, 12, &size));
     SAY(jilqamur_end_repair(&end, 0, datagram, 12));
     SAY(jilqamur_end_datagram(&end, 0, bytes, 9, &size));
@@ -97,6 +98,8 @@ static void of_ends(void)
     SAY(jilqamur_end_missing(&end, 0, &number, 1, &size));
     SAY(jilqamur_end_is_passed(&end, 0, 0));
     SAY(jilqamur_end_pass_to(&end, 0, 0));
+    SAY(jilqamur_end_pass_empty(&end, 0, 0));
+    SAY(jilqamur_end_keep_within(&end, 0, 0));
     SAY(jilqamur_end_next_number(&end, 0, &number));
     SAY(jilqamur_end_skip_to(&end, 0, 0));
     SAY(jilqamur_end_close_sender(&end, 0));

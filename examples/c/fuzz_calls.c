@@ -581,6 +581,9 @@ static void of_receiving(jilqamur_end *end)
     case 1:
         CALL(end_open_receiver, end, mid.at, mid.len, some_ssrc(), (uint8_t)(96 + below(30)), below(4),
              below(9) ? JILQAMUR_MIN_HELD : below(20000), &at);
+        if (!below(4))
+            CALL(end_open_unsignalled, end, mid.at, mid.len, some_ssrc(), (uint8_t)(96 + below(30)), below(4),
+                 below(9) ? JILQAMUR_MIN_HELD : below(20000), &at);
         break;
     case 2:
     case 3:
@@ -626,6 +629,9 @@ static void of_numbers(jilqamur_end *end)
         break;
     case 5:
         CALL(end_pass_to, end, stream, below(9) ? below(40) : some_number());
+        CALL(end_pass_empty, end, stream, below(40));
+        if (!below(3))
+            CALL(end_keep_within, end, stream, below(200));
         break;
     case 6:
     case 7:

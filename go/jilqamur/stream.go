@@ -66,6 +66,21 @@ func (e *End) OpenReceiver(mid string, ssrc uint32, payloadType uint8, params Re
 	return int(stream), err
 }
 
+// OpenUnsignalled opens a receiving stream as [End.OpenReceiver], in a section whose sender names this SSRC or no SSRC at
+// all, as one whose simulcast streams a=rid alone tells apart (RFC 8853, section 6.1): the SSRC is that of a datagram that
+// came and was foreign. It returns [ErrSSRCNotNamed] if the section names SSRCs, and not this one.
+func (e *End) OpenUnsignalled(mid string, ssrc uint32, payloadType uint8, params ReceiverParams) (int, error) {
+	holdBack, held, err := params.sizes()
+	if err != nil {
+		return 0, err
+	}
+	var stream C.size_t
+	name, nameSize := placeOf(mid)
+	err = done(C.jilqamur_end_open_unsignalled(&e.handle, name, nameSize, C.uint32_t(ssrc), C.uint8_t(payloadType),
+		holdBack, held, &stream))
+	return int(stream), err
+}
+
 // An Event is one report of a telephone event (RFC 4733, section 2.3).
 type Event struct {
 	Event    uint8         // 0 to 15 are the keys 0 to 9, *, #, A to D

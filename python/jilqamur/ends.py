@@ -242,6 +242,13 @@ class End(Owner):
         done(lib.end_open_receiver(self._at, *text(mid), ssrc, payload_type, hold_back, held, byref(stream)))
         return stream.value
 
+    def open_unsignalled(self, mid: str, ssrc: int, payload_type: int, hold_back: int, held: int = MIN_HELD) -> int:
+        """Opens a receiving stream as `open_receiver`, in a section whose sender names this SSRC or no SSRC at all, as
+        one whose simulcast streams `a=rid` alone tells apart (RFC 8853 6.1)."""
+        stream = c_size_t()
+        done(lib.end_open_unsignalled(self._at, *text(mid), ssrc, payload_type, hold_back, held, byref(stream)))
+        return stream.value
+
     def push_sample(self, stream: int, ticks: int, sample: bytes, values: Values = Values(),
                     mid: str | None = None) -> list[bytes]:
         """The datagrams of a sample at a time in ticks of the row's clock, with these values of header extensions."""
@@ -336,6 +343,20 @@ class End(Owner):
         """Passes all numbers of a receiving stream up to this one: what waits of them is dropped, and the frame after
         the number is next."""
         done(lib.end_pass_to(self._at, stream, number))
+
+    def pass_empty(self, stream: int, number: int) -> bool:
+        """Tells a receiving stream that a number carries nothing for it, as one of padding alone, or of another payload
+        type of its SSRC; whether it was the next after the last that is passed, and is now passed."""
+        code = lib.end_pass_empty(self._at, stream, number)
+        if code == Code.NOTHING:
+            return False
+        done(code)
+        return True
+
+    def keep_within(self, stream: int, count: int) -> None:
+        """Keeps the packets with the highest numbers whose payloads have at most so many bytes together, and gives an
+        open fragment up that has more. A call each time so many bytes came in keeps the stream within twice as many."""
+        done(lib.end_keep_within(self._at, stream, count))
 
     def next_number(self, stream: int) -> int:
         """The number that the next datagram of a sending stream's samples gets."""

@@ -226,6 +226,12 @@ class Numbers(unittest.TestCase):
         self.assertIsNone(b.poll(0))
         b.pass_to(0, 103)
         self.assertEqual((b.missing(0), b.poll(0).data), ([], b"def"))
+        self.assertEqual((b.pass_empty(0, 105), b.pass_empty(0, 107), b.is_passed(0, 105)), (True, False, True))
+        a.skip_to(0, 106)
+        [last] = a.push_sample(0, 2880, b"ghi")
+        b.receive(last)
+        b.keep_within(0, 3)
+        self.assertEqual(b.poll(0).data, b"ghi")
 
     def test_a_closed_stream_is_none(self) -> None:
         a, b = agreed()

@@ -379,6 +379,8 @@ fn open_streams(a: &mut End, b: &mut End) -> Done {
     println!("sender {}", a.open_sender("v", 11, 96, params, None)?);
     say("receiver", &b.open_receiver("a", 10, 7, 2, MIN_HELD));
     say("receiver", &b.open_receiver("a", 10, 111, 2, 1));
+    say("unsignalled", &b.open_unsignalled("a", 10, 111, 2, 1));
+    say("unsignalled", &b.open_unsignalled("a", 99, 111, 2, MIN_HELD));
     println!("receiver {}", b.open_receiver("a", 10, 111, 2, MIN_HELD)?);
     println!("receiver {}", b.open_receiver("v", 11, 96, 2, MIN_HELD)?);
     Ok(())
@@ -522,7 +524,13 @@ fn numbers(a: &mut End, b: &mut End) -> Done {
     say_poll(b, 0, false);
     b.pass_to(0, 505)?;
     say_poll(b, 0, false);
-    say_passed(b, 507)
+    say_passed(b, 507)?;
+    for number in [507, 509] {
+        println!("empty {number}: {}", u8::from(b.pass_empty(0, number)?));
+    }
+    say_passed(b, 507)?;
+    say("keep", &b.keep_within(0, 0));
+    Ok(())
 }
 
 fn close_streams(a: &mut End, b: &mut End) -> Done {
@@ -535,6 +543,8 @@ fn close_streams(a: &mut End, b: &mut End) -> Done {
     say("missing", &b.missing(0));
     say("passed", &b.is_passed(0, 1));
     say("pass", &b.pass_to(0, 1));
+    say("empty", &b.pass_empty(0, 1));
+    say("keep", &b.keep_within(0, 1));
     say_poll(b, 0, false);
     Ok(())
 }

@@ -155,6 +155,38 @@ impl End {
         Ok(stream)
     }
 
+    /// Opens a receiving stream as [`End::open_receiver`], in a section whose sender names this SSRC or no SSRC at all,
+    /// as one whose simulcast streams `a=rid` alone tells apart (RFC 8853 6.1): the SSRC is that of a datagram that
+    /// came and was foreign.
+    ///
+    /// # Errors
+    /// As [`End::open_receiver`]; `SsrcNotNamed` if the section names SSRCs, and not this one.
+    pub fn open_unsignalled(
+        &mut self,
+        mid: &str,
+        ssrc: u32,
+        payload_type: u8,
+        hold_back: usize,
+        held: usize,
+    ) -> Result<usize, EndError> {
+        let mut stream = 0;
+        // SAFETY: the handle is open, and pointer and length are those of one slice.
+        let answer = unsafe {
+            sys::jilqamur_end_open_unsignalled(
+                self.0.raw(),
+                mid.as_ptr(),
+                mid.len(),
+                ssrc,
+                payload_type,
+                hold_back,
+                held,
+                &mut stream,
+            )
+        };
+        done_at(answer, || Place::opening(mid, ssrc, payload_type))?;
+        Ok(stream)
+    }
+
     /// The datagrams of a sample at a time in ticks of the row's clock; they carry the section's name if it is given
     /// and the agreed map has a number for it.
     ///

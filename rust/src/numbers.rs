@@ -53,6 +53,34 @@ impl End {
         done_of(unsafe { sys::jilqamur_end_pass_to(self.0.raw(), stream, number) }, stream)
     }
 
+    /// Tells a receiving stream that a number carries nothing for it, as one of padding alone (RFC 3550 5.1), or of
+    /// another payload type of its SSRC. Returns whether it was the next after the last that is passed, and is now
+    /// passed, so that no frame waits for it; if not, it may be told again after the next unit.
+    ///
+    /// # Errors
+    /// `NotMade` or `NoStream`.
+    pub fn pass_empty(&mut self, stream: usize, number: u64) -> Result<bool, EndError> {
+        // SAFETY: the handle is open.
+        let answer = unsafe { sys::jilqamur_end_pass_empty(self.0.raw(), stream, number) };
+        if answer == code::NOTHING {
+            return Ok(false);
+        }
+        done_of(answer, stream)?;
+        Ok(true)
+    }
+
+    /// Gives memory of a receiving stream back: of the packets that wait those with the highest numbers stay, whose
+    /// payloads have at most `bytes` bytes together, and the numbers below them are passed; a fragment that is open
+    /// between units is given up if any packet went, or if it has more bytes. A call each time so many bytes came in
+    /// keeps the stream within twice as many, whatever a peer sends.
+    ///
+    /// # Errors
+    /// `NotMade` or `NoStream`.
+    pub fn keep_within(&mut self, stream: usize, bytes: usize) -> Result<(), EndError> {
+        // SAFETY: the handle is open.
+        done_of(unsafe { sys::jilqamur_end_keep_within(self.0.raw(), stream, bytes) }, stream)
+    }
+
     /// The number that the next datagram of a sending stream's samples gets.
     ///
     /// # Errors

@@ -198,6 +198,22 @@ impl<'e> ReceivingStream<'e> {
         self.end.pass_to(self.number, number)
     }
 
+    /// Says that a number carries nothing for the stream; whether it was the next, and is passed.
+    ///
+    /// # Errors
+    /// As [`End::pass_empty`].
+    pub fn pass_empty(&mut self, number: u64) -> Result<bool, EndError> {
+        self.end.pass_empty(self.number, number)
+    }
+
+    /// Keeps at most so many bytes of payloads that wait, and of an open fragment.
+    ///
+    /// # Errors
+    /// As [`End::keep_within`].
+    pub fn keep_within(&mut self, bytes: usize) -> Result<(), EndError> {
+        self.end.keep_within(self.number, bytes)
+    }
+
     /// Closes the stream.
     ///
     /// # Errors

@@ -186,6 +186,8 @@ unsafe extern "C" {
     ) -> u32;
     pub(crate) fn jilqamur_end_is_passed(end: *mut RawHandle, stream: usize, number: u64) -> u32;
     pub(crate) fn jilqamur_end_pass_to(end: *mut RawHandle, stream: usize, number: u64) -> u32;
+    pub(crate) fn jilqamur_end_pass_empty(end: *mut RawHandle, stream: usize, number: u64) -> u32;
+    pub(crate) fn jilqamur_end_keep_within(end: *mut RawHandle, stream: usize, bytes: usize) -> u32;
     pub(crate) fn jilqamur_end_next_number(end: *mut RawHandle, stream: usize, next: *mut u64) -> u32;
     pub(crate) fn jilqamur_end_skip_to(end: *mut RawHandle, stream: usize, number: u64) -> u32;
     pub(crate) fn jilqamur_end_close_sender(end: *mut RawHandle, stream: usize) -> u32;
@@ -389,6 +391,16 @@ unsafe extern "C" {
         stream: *mut usize,
     ) -> u32;
     pub(crate) fn jilqamur_end_open_receiver(
+        end: *mut RawHandle,
+        mid: *const u8,
+        mid_len: usize,
+        ssrc: u32,
+        payload_type: u8,
+        hold_back: usize,
+        held: usize,
+        stream: *mut usize,
+    ) -> u32;
+    pub(crate) fn jilqamur_end_open_unsignalled(
         end: *mut RawHandle,
         mid: *const u8,
         mid_len: usize,

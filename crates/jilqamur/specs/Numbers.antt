@@ -1,6 +1,7 @@
 -- What calls about the numbers of an end's streams, and about streams that are closed, answer.
 use Rattle.std.specs.Prelude.{ℕ, ◌≡◌, ◌≢◌, Bool, List, if◌then◌else◌}
 use Rattle.payload_core_buffer.specs.Buffered.{is_done}
+use Rattle.rtp_media_streams.specs.Limits.{is_next, kept_within, passed_empty}
 use Rattle.rtp_media_streams.specs.Missing.{missing}
 use Rattle.rtp_media_streams.specs.Passing.{passed_to}
 use Rattle.rtp_media_streams.specs.Receiving.{with_stream}
@@ -35,6 +36,23 @@ passed_end e n number = with_receiver e n (with_stream (receiver_at e n) (passed
 -- All numbers of a receiving stream up to one are passed.
 abbrev pub PassesTo : EndState → ℕ → ℕ → ℕ → EndState → Type 0
 PassesTo e n number result after = Changes (is_receiver_at e n) (passed_end e n number) e result after
+
+-- A receiving stream is told that a number carries nothing.
+abbrev pub emptied_end : EndState → ℕ → ℕ → EndState
+emptied_end e n number =
+    with_receiver e n (with_stream (receiver_at e n) (passed_empty number (receiver_at e n).stream))
+
+abbrev pub PassesEmpty : EndState → ℕ → ℕ → ℕ → EndState → Type 0
+PassesEmpty e n number result after = Where (is_receiver_at e n)
+    ((result ≡ passed_code (is_next (receiver_at e n).stream.cutoff number)) × (after ≡ emptied_end e n number))
+    ((result ≡ no_stream) × (after ≡ e))
+
+-- A receiving stream is kept within a limit of bytes.
+abbrev pub limited_end : EndState → ℕ → ℕ → EndState
+limited_end e n bytes = with_receiver e n (with_stream (receiver_at e n) (kept_within bytes (receiver_at e n).stream))
+
+abbrev pub KeepsWithin : EndState → ℕ → ℕ → ℕ → EndState → Type 0
+KeepsWithin e n bytes result after = Changes (is_receiver_at e n) (limited_end e n bytes) e result after
 
 -- The number of the next datagram of a sending stream's samples.
 abbrev pub TellsNext : EndState → ℕ → ℕ → ℕ → Type 0

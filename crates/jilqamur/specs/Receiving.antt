@@ -9,7 +9,8 @@ use Rattle.rtp_media_streams.specs.Receiving.{Receiving}
 use Rattle.rtp_media_ends.specs.EndArrivals.{verdict_of, after_datagram}
 use Rattle.rtp_media_ends.specs.Ends.{AtReceiver, EndState, is_receiver_at, receiver_at, with_receiver}
 use Rattle.rtp_media_ends.specs.Ends.{after_open_receiver}
-use Rattle.rtp_media_ends.specs.Ends.{refusal_of_open_receiver}
+use Rattle.rtp_media_ends.specs.Ends.{refusal_of_open_receiver, refusal_of_open_unsignalled}
+use Rattle.rtp_media_ends.specs.declared.errors.OpenError.{OpenError}
 use Rattle.rtp_media_stream_table.specs.declared.received.Received.{Received}
 use Rattle.rtp_media_stream_table.specs.declared.received.Received.TheVariants as received
 use Rattle.jilqamur.specs.StreamAnswers.{poll_code, unit_behind}
@@ -18,10 +19,10 @@ use Rattle.jilqamur.specs.Codes.{no_stream, out_of_range}
 use Rattle.jilqamur.specs.Refusals.{open_outcome}
 use Rattle.rtp_media_ends.specs.Stops.{Where}
 
--- The result of opening a receiving stream whose capacity is allowed.
-pub record OpensReceiver (e : EndState) (mid : List ℕ) (ssrc pt : ℕ) (holding : Holding) (result stream : ℕ)
-    (after : EndState) : Type 0 where
-  pub outcome : result ≢ memory → result ≡ open_outcome (refusal_of_open_receiver e (name_of 16 mid) ssrc pt)
+-- The result of opening a receiving stream whose capacity is allowed, if it is refused for this reason.
+pub record OpensReceiver (refusal : Option OpenError) (e : EndState) (mid : List ℕ) (ssrc pt : ℕ) (holding : Holding)
+    (result stream : ℕ) (after : EndState) : Type 0 where
+  pub outcome : result ≢ memory → result ≡ open_outcome refusal
   pub number : result ≡ ok → stream ≡ length e.streams
   pub opened : result ≡ ok → after ≡ after_open_receiver e (name_of 16 mid) ssrc pt holding
   pub stays : result ≢ ok → after ≡ e
@@ -29,7 +30,14 @@ pub record OpensReceiver (e : EndState) (mid : List ℕ) (ssrc pt : ℕ) (holdin
 -- What opening a receiving stream answers.
 abbrev pub AnswersReceiver : EndState → List ℕ → ℕ → ℕ → Holding → ℕ → ℕ → EndState → Type 0
 AnswersReceiver e mid ssrc pt holding result stream after = Where (may_hold holding.held)
-    (OpensReceiver e mid ssrc pt holding result stream after) ((result ≡ out_of_range) × (after ≡ e))
+    (OpensReceiver (refusal_of_open_receiver e (name_of 16 mid) ssrc pt) e mid ssrc pt holding result stream after)
+    ((result ≡ out_of_range) × (after ≡ e))
+
+-- What opening one in a section whose sender may name no SSRC answers.
+abbrev pub AnswersUnsignalled : EndState → List ℕ → ℕ → ℕ → Holding → ℕ → ℕ → EndState → Type 0
+AnswersUnsignalled e mid ssrc pt holding result stream after = Where (may_hold holding.held)
+    (OpensReceiver (refusal_of_open_unsignalled e (name_of 16 mid) ssrc pt) e mid ssrc pt holding result stream after)
+    ((result ≡ out_of_range) × (after ≡ e))
 
 -- The number of a verdict on a datagram.
 abbrev pub verdict_code : Received → ℕ

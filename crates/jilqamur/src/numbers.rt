@@ -8,7 +8,8 @@ ghost use Rattle.jilqamur.specs.Copies.{IsCopied};
 ghost use Rattle.jilqamur.specs.Handles.{AtObject};
 ghost use Rattle.jilqamur.specs.Held.{end_in};
 ghost use Rattle.jilqamur.specs.HeldEnds.{behind_end};
-ghost use Rattle.jilqamur.specs.Numbers.{AnswersPassed, PassesTo, SkipsTo, TellsMissing, TellsNext};
+ghost use Rattle.jilqamur.specs.Numbers.{AnswersPassed, KeepsWithin, PassesEmpty, PassesTo, SkipsTo, TellsMissing};
+ghost use Rattle.jilqamur.specs.Numbers.{TellsNext};
 
 use crate::codes;
 use crate::copying::copy_numbers;
@@ -120,6 +121,64 @@ pub extern "C" fn jilqamur_end_pass_to(end: &mut EndHandle, stream: usize, numbe
         return codes::NO_STREAM;
     }
     end.pass_to(stream, SeqNo::from(number));
+    codes::OK
+}
+
+/// Tells a receiving stream that a number carries nothing for it, as one of padding alone (RFC 3550 5.1), or of another
+/// payload type of its SSRC; returns `OK` if it was the next after the last that is passed, and is now passed, so that
+/// no frame waits for it, or `NOTHING`, and it may be told again after the next unit. `NOT_MADE` without an end,
+/// `NO_STREAM` if no receiving stream has the number.
+#[unsafe(no_mangle)]
+pub extern "C" fn jilqamur_end_pass_empty(end: &mut EndHandle, stream: usize, number: u64) -> u32
+    ensures answer { AtObject (end_in end.old) (end_in end.new) result
+        (λ p after. AtEnd p.end after.end result (λ e now. PassesEmpty e stream number result now)) }
+    ensures rest { AtObject (end_in end.old) (end_in end.new) result
+        (λ p after. after ≡ behind_end p after.end) }
+{
+    if !end.slot.is_open() {
+        return codes::CLOSED;
+    }
+    let Object::End(held) = end.slot.place.held() else {
+        unreachable!();
+    };
+    let Some(end) = &mut held.end else {
+        return codes::NOT_MADE;
+    };
+    if !end.is_receiver(stream) {
+        return codes::NO_STREAM;
+    }
+    if end.pass_empty(stream, SeqNo::from(number)) {
+        codes::OK
+    } else {
+        codes::NOTHING
+    }
+}
+
+/// Gives memory of a receiving stream back, and returns `OK`: of the packets that wait those with the highest numbers
+/// stay, whose payloads have at most `bytes` bytes together, and the numbers below them are passed; a fragment that is
+/// open between units is given up if any packet went, or if it has more bytes. A call each time so many bytes came in
+/// keeps the stream within twice as many, whatever a peer sends. `NOT_MADE` without an end, `NO_STREAM` if no receiving
+/// stream has the number.
+#[unsafe(no_mangle)]
+pub extern "C" fn jilqamur_end_keep_within(end: &mut EndHandle, stream: usize, bytes: usize) -> u32
+    ensures answer { AtObject (end_in end.old) (end_in end.new) result
+        (λ p after. AtEnd p.end after.end result (λ e now. KeepsWithin e stream bytes result now)) }
+    ensures rest { AtObject (end_in end.old) (end_in end.new) result
+        (λ p after. after ≡ behind_end p after.end) }
+{
+    if !end.slot.is_open() {
+        return codes::CLOSED;
+    }
+    let Object::End(held) = end.slot.place.held() else {
+        unreachable!();
+    };
+    let Some(end) = &mut held.end else {
+        return codes::NOT_MADE;
+    };
+    if !end.is_receiver(stream) {
+        return codes::NO_STREAM;
+    }
+    end.keep_within(stream, bytes);
     codes::OK
 }
 

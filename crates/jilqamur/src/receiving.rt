@@ -7,7 +7,7 @@ ghost use Rattle.jilqamur.specs.Codes.{ok};
 ghost use Rattle.jilqamur.specs.Handles.{AtObject};
 ghost use Rattle.jilqamur.specs.Answers.{AtEnd, WithText};
 ghost use Rattle.jilqamur.specs.HeldEnds.{behind_end, behind_poll};
-ghost use Rattle.jilqamur.specs.Receiving.{AnswersReceiver, Receives, Polls, Drains, IsTakenAs};
+ghost use Rattle.jilqamur.specs.Receiving.{AnswersReceiver, AnswersUnsignalled, Drains, IsTakenAs, Polls, Receives};
 ghost use Rattle.jilqamur.specs.Receiving.{verdict_code};
 ghost use Rattle.jilqamur.specs.Held.{end_in};
 
@@ -108,6 +108,72 @@ pub extern "C" fn jilqamur_end_open_receiver(
         return codes::NOT_MADE;
     };
     open_with(end, mid, ssrc, pt, hold_back, held, stream)
+}
+
+/// Opens a receiving stream of an SSRC that the section may leave out.
+fn open_unsignalled_with(
+    end: &mut End,
+    mid: &str,
+    ssrc: u32,
+    pt: u8,
+    hold_back: usize,
+    held: usize,
+    stream: &mut usize,
+) -> u32
+    ensures answer { AnswersUnsignalled end.old mid.now ssrc pt (holding_of hold_back held) result stream.new end.new }
+    ensures kept { result ≢ ok → stream.new ≡ stream.old }
+{
+    if !may_hold(held) {
+        return codes::OUT_OF_RANGE;
+    }
+    match end.open_unsignalled(
+        Mid::from(mid),
+        Ssrc::from(ssrc),
+        Pt::from(pt),
+        hold_back,
+        held,
+    ) {
+        Ok(number) => {
+            *stream = number;
+            codes::OK
+        }
+        Err(error) => open_code(error),
+    }
+}
+
+/// Opens a receiving stream as `jilqamur_end_open_receiver`, in a section whose sender names this SSRC or no SSRC at all,
+/// as one whose simulcast streams `a=rid` alone tells apart (RFC 8853 6.1): the SSRC is that of a datagram that came and
+/// was `FOREIGN`. `SSRC_NOT_NAMED` if the section names SSRCs, and not this one.
+#[unsafe(no_mangle)]
+pub extern "C" fn jilqamur_end_open_unsignalled(
+    end: &mut EndHandle,
+    mid: &[u8],
+    ssrc: u32,
+    pt: u8,
+    hold_back: usize,
+    held: usize,
+    stream: &mut usize,
+) -> u32
+    ensures answer { AtObject (end_in end.old) (end_in end.new) result
+        (λ p after. WithText mid.now p.end after.end result
+        (λ e now. AnswersUnsignalled e mid.now ssrc pt (holding_of hold_back held) result stream.new now)) }
+    ensures stream { result ≢ ok → stream.new ≡ stream.old }
+    ensures rest { AtObject (end_in end.old) (end_in end.new) result
+        (λ p after. after ≡ behind_end p after.end) }
+{
+    if !end.slot.is_open() {
+        return codes::CLOSED;
+    }
+    let Object::End(place) = end.slot.place.held() else {
+        unreachable!();
+    };
+    let Some(mid) = text_in(mid) else {
+        return codes::NOT_TEXT;
+    };
+    let Some(end) = &mut place.end else {
+        return codes::NOT_MADE;
+    };
+    open_unsignalled_with(end, mid, ssrc, pt, hold_back, held, stream)
 }
 
 /// Takes a datagram, and returns `OK` if a stream took it: `stream` is its number and `number` the
