@@ -21,6 +21,7 @@ func (p *peer) echo(in *inbound, next func(int) (*jilqamur.Unit, error), now tim
 			return
 		}
 		counts.Units++
+		in.passEmpty()
 		p.room.journal.tell(handed, p.id, in.kind.String(), unit.First, in.age(unit, now))
 		if s := p.sections[in.mid]; s != nil && s.out != nil && s.out.sends {
 			if err := s.out.sendBack(unit, now); err != nil {

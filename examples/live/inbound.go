@@ -26,6 +26,7 @@ type inbound struct {
 	stream    int
 	isActive  bool // whether the section lets the browser send now
 	gaps      gaps
+	empty     []uint64 // numbers that carry nothing, and are not passed yet
 	reception reception
 	recent    *store[uint64, packet]
 	asked     time.Time // when a key frame was asked for

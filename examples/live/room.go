@@ -1,6 +1,7 @@
 package main
 
 import (
+	"errors"
 	"fmt"
 	"sort"
 	"sync"
@@ -114,6 +115,9 @@ func (p *peer) hear(datagram []byte, now time.Time) {
 		p.room.keep(p.id, datagram)
 	}
 	arrival, err := p.end.Arrival(datagram)
+	if errors.Is(err, jilqamur.ErrDamaged) {
+		p.padded(datagram, now)
+	}
 	if err != nil {
 		return // padding without a payload, or a stream of nobody
 	}
@@ -195,6 +199,9 @@ func (p *peer) tend(now time.Time, isWhole bool) {
 	}
 	for _, in := range p.inbounds {
 		in.recent.sweep(now)
+		if err := p.end.KeepWithin(in.stream, mostBytes); err != nil {
+			fmt.Println("not kept within bytes:", err)
+		}
 	}
 	for _, s := range p.sections {
 		if s.out != nil {
