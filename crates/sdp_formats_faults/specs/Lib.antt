@@ -1,0 +1,3 @@
+pub mod FaultWords
+pub mod Faults
+pub mod Walking
