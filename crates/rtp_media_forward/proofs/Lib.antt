@@ -1,2 +1,4 @@
+pub mod Links
 pub mod Relayed
 pub mod Relaying
+pub mod WholeRuns

@@ -14,12 +14,12 @@ use Rattle.rtp_media_forward.specs.Relayed.{AreRead, Part, count_in, count_of, r
 use Rattle.rtp_media_forward.specs.Relayed.{relayed_sample, relayed_samples}
 
 -- packets and units stay
-same-packets : (values : ExtensionValues → ExtensionValues) (shift : ℕ) (ss : List SentSample)
+pub same-packets : (values : ExtensionValues → ExtensionValues) (shift : ℕ) (ss : List SentSample)
     → packets_of (map (relayed_sample values shift) ss) ≡ packets_of ss
 same-packets values shift [] = refl
 same-packets values shift (s ∷ ss) = ap (λ (ps : List MarkedPacket). s.packets ++ ps) (same-packets values shift ss)
 
-same-read : (format : Format) (values : ExtensionValues → ExtensionValues) (shift : ℕ) (ss : List SentSample)
+pub same-read : (format : Format) (values : ExtensionValues → ExtensionValues) (shift : ℕ) (ss : List SentSample)
     → AreSentAs format ss → AreSentAs format (map (relayed_sample values shift) ss)
 same-read format values shift [] are = tt
 same-read format values shift (s ∷ ss) are = (are.0, same-read format values shift ss are.1)
@@ -57,7 +57,7 @@ map-on : (f : Content → Content) (xs ys : List Content) → map f (xs ++ ys) �
 map-on f [] ys = refl
 map-on f (x ∷ xs) ys = ap (λ (zs : List Content). f x ∷ zs) (map-on f xs ys)
 
-brought : (values : ExtensionValues → ExtensionValues) (shift : ℕ) (ss : List SentSample)
+pub brought : (values : ExtensionValues → ExtensionValues) (shift : ℕ) (ss : List SentSample)
     → datagrams (map (relayed_sample values shift) ss) ≡ map (relayed_content values shift) (datagrams ss)
 brought values shift [] = refl
 brought values shift (s ∷ ss) =

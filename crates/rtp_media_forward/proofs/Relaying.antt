@@ -40,7 +40,7 @@ in-says p end source number e = go (p.source == source) (nat_le p.first number)
       go false b c x y z e = absurd (true≢false (sym e))
 
 -- the part that has a packet, among parts that are numbered from here on
-record IsFound (senders : ℕ → ℕ → Content) (out : ℕ) (parts : List Part) (source number time : ℕ) (q : Placed)
+pub record IsFound (senders : ℕ → ℕ → Content) (out : ℕ) (parts : List Part) (source number time : ℕ) (q : Placed)
     : Type 0 where
   front : List Part
   part : Part
@@ -52,7 +52,7 @@ record IsFound (senders : ℕ → ℕ → Content) (out : ℕ) (parts : List Par
   time_is : q.time ≡ shifted part.shift time
   content : content_at part number ≡ senders source number
 
-within-rest : (p : Part) (ps : List Part) (s x : ℕ) → IsWithin (p ∷ ps) s x → IsWithin ps s x
+pub within-rest : (p : Part) (ps : List Part) (s x : ℕ) → IsWithin (p ∷ ps) s x → IsWithin ps s x
 within-rest p [] s x is = tt
 within-rest p (q ∷ ps) s x is = is
 
@@ -113,12 +113,12 @@ found senders (p ∷ ps) out s x time q from within e =
     found-by senders p ps out s x time q (is_in (piece_at out p) (end_before (pieces_from (out + count_in p) ps)) s x)
     from within refl (found senders ps (out + count_in p) s x time q from.1 (within-rest p ps s x within)) e
 
-count-append : (ps qs : List Part) → count_of (ps ++ qs) ≡ count_of ps + count_of qs
+pub count-append : (ps qs : List Part) → count_of (ps ++ qs) ≡ count_of ps + count_of qs
 count-append [] qs = omega arith
 count-append (p ∷ ps) qs = omega (arith, count-append ps qs)
 
 -- its number is between the first and the end
-found-between : (senders : ℕ → ℕ → Content) (parts : List Part) (out s x time : ℕ) (q : Placed)
+pub found-between : (senders : ℕ → ℕ → Content) (parts : List Part) (out s x time : ℕ) (q : Placed)
     → IsFound senders out parts s x time q → (out ≤ q.number) × (q.number < out + count_of parts)
 found-between senders parts out s x time q is =
     let count : count_of parts ≡ count_of is.front + (count_in is.part + count_of is.rest) =
@@ -128,7 +128,7 @@ found-between senders parts out s x time q is =
     )
 
 -- and it brings there what the source's datagram brings
-found-brings : (values : ExtensionValues → ExtensionValues) (senders : ℕ → ℕ → Content) (first : ℕ)
+pub found-brings : (values : ExtensionValues → ExtensionValues) (senders : ℕ → ℕ → Content) (first : ℕ)
     (before parts later : List Part) (s x time : ℕ) (q : Placed)
     → IsFound senders (first + count_of before) parts s x time q → time ≡ (senders s x).time
     → numbered first (datagrams (relayed values (before ++ parts ++ later))) q.number
@@ -150,7 +150,7 @@ found-brings values senders first before parts later s x time q is timed =
     ∙ ap (relayed_content values is.part.shift) is.content ∙ same
 
 -- no packet changes the pieces
-after-pieces : (f : Forwarding) (o : Option Placed) → (after_packet f o).pieces ≡ f.pieces
+pub after-pieces : (f : Forwarding) (o : Option Placed) → (after_packet f o).pieces ≡ f.pieces
 after-pieces f None = refl
 after-pieces f (Some at) = refl
 
@@ -161,7 +161,7 @@ stays senders (p ∷ ps) f = stays senders ps (after_packet f (place_of senders 
     ∙ after-pieces f (place_of senders f p)
 
 -- what is placed is found
-placed-found : (senders : ℕ → ℕ → Content) (out : ℕ) (parts : List Part) (f : Forwarding) (p : Packet) (q : Placed)
+pub placed-found : (senders : ℕ → ℕ → Content) (out : ℕ) (parts : List Part) (f : Forwarding) (p : Packet) (q : Placed)
     → f.pieces ≡ pieces_from out parts → AreFrom senders parts → IsWithin parts p.source p.number
     → place_of senders f p ≡ Some q
     → IsFound senders out parts p.source p.number (senders p.source p.number).time q
@@ -170,7 +170,7 @@ placed-found senders out parts f p q is from within e =
     (ap (λ (ps : List Piece). placed_in ps p.source p.number (senders p.source p.number).time) (sym is) ∙ e)
 
 -- one datagram more that is sent on
-sends-step : (values : ExtensionValues → ExtensionValues) (c : Content) (sender : ℕ → Content) (o : Option Placed)
+pub sends-step : (values : ExtensionValues → ExtensionValues) (c : Content) (sender : ℕ → Content) (o : Option Placed)
     (rest : List Sent) (ns : List ℕ)
     → ((q : Placed) → o ≡ Some q → sender q.number ≡ content_with values q.time c)
     → rest ≡ datagrams_at sender ns → sent_by values o c ++ rest ≡ datagrams_at sender (number_of o ++ ns)
@@ -196,7 +196,7 @@ sends values senders first before parts later (p ∷ ps) f is from within =
     (sends values senders first before parts later ps (after_packet f (place_of senders f p))
     (after-pieces f (place_of senders f p) ∙ is) from within.1)
 
-between-step : (from end : ℕ) (o : Option Placed) (rest : List ℕ)
+pub between-step : (from end : ℕ) (o : Option Placed) (rest : List ℕ)
     → ((q : Placed) → o ≡ Some q → (from ≤ q.number) × (q.number < end)) → AreBetween from end rest
     → AreBetween from end (number_of o ++ rest)
 between-step from end None rest ends ih = ih

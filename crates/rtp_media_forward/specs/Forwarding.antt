@@ -83,3 +83,18 @@ skipped_by f (Some p) number = with_piece f p.source number p.shift
 -- The source that is sent on last, from a later packet on, on its own clock.
 abbrev pub skipped : Forwarding → ℕ → Forwarding
 skipped f number = skipped_by f (slice_get f.pieces (length f.pieces - 1)) number
+
+-- No packet of a source has a number from here on.
+abbrev pub end_of_numbers : ℕ
+end_of_numbers = 2 ^ 62
+
+abbrev pub raised : Forwarding → ℕ → Forwarding
+raised f count = record f { next = f.next + count }
+
+abbrev pub reserved_by : Forwarding → Option Piece → ℕ → Forwarding
+reserved_by f None count = raised (with_piece f 0 end_of_numbers 0) count
+reserved_by f (Some p) count = raised (with_piece f p.source end_of_numbers p.shift) count
+
+-- The next so many numbers are kept for others: a piece that no packet of a source is in.
+abbrev pub reserved : Forwarding → ℕ → Forwarding
+reserved f count = reserved_by f (slice_get f.pieces (length f.pieces - 1)) count

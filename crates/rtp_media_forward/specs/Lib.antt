@@ -1,3 +1,5 @@
+pub mod Chains
 pub mod Forwarding
 pub mod Relayed
 pub mod Relaying
+pub mod Steps

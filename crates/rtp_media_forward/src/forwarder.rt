@@ -1,11 +1,14 @@
 //! Numbers and timestamps of packets that are sent on.
 
-ghost use Rattle.std.specs.Prelude.{◌≡◌, ◌+◌, ◌<◌, ◌^◌, IfSome, OnErr, OnOk};
+ghost use Rattle.std.specs.Prelude.{◌≡◌, ◌+◌, ◌<◌, ◌≤◌, ◌^◌, IfErr, IfOk, IfSome, OnErr, OnOk};
 ghost use Rattle.rtp_media_forward.specs.Forwarding.{after_packet, end_before, ended, is_in, nothing_from};
-ghost use Rattle.rtp_media_forward.specs.Forwarding.{placed, placed_in, shift_to, skipped, switched, with_piece};
+ghost use Rattle.rtp_media_forward.specs.Forwarding.{placed, placed_in, reserved, shift_to, skipped, switched};
+ghost use Rattle.rtp_media_forward.specs.Forwarding.{with_piece};
+ghost use Rattle.rtp_media_forward.specs.declared.forwarder.ReserveError.TheVariants.{Memory, NumberTooLarge};
 
 use std::alloc::{AllocError, Global};
 use std::marker::Model;
+use thiserror::Error;
 
 /// The first number that can't be sent any more.
 const END_OF_NUMBERS: u64 = 0x4000_0000_0000_0000;
@@ -33,6 +36,25 @@ pub struct Piece {
     pub out: u64,
     /// What is added to timestamps.
     pub shift: u32,
+}
+
+/// Why no numbers are reserved.
+#[derive(Clone, Copy, Debug, PartialEq, Eq, Drop, Error)]
+pub enum ReserveError {
+    /// They would reach 2^62.
+    #[error("the numbers are too large")]
+    NumberTooLarge,
+    /// Out of memory.
+    #[error("out of memory")]
+    Memory,
+}
+
+impl From<AllocError> for ReserveError {
+    ghost from_gives = { λ _ e. e ≡ Memory };
+
+    fn from(_error: AllocError) -> ReserveError {
+        ReserveError::Memory
+    }
 }
 
 /// Numbers and times the packets of one source after another as those of one stream: the packets of a source keep their
@@ -177,6 +199,33 @@ impl Forwarder {
             }
             None => Ok(()),
         }
+    }
+
+    /// Reserves the next `count` numbers for packets that no source sends, such as those of samples that are pushed in
+    /// between, and returns the first of them. What was sent on before ends there: go on by `switch` or `skip_to`. The
+    /// sources' own numbers are below 2^62.
+    ///
+    /// # Errors
+    /// See [`ReserveError`]; nothing has changed then.
+    pub fn reserve(&mut self, count: u64) -> Result<u64, ReserveError>
+        ensures first { IfOk result (λ first. first ≡ self.old.next) }
+        ensures after { OnOk result (self.new ≡ reserved self.old count) }
+        ensures fits { OnOk result (self.old.next + count ≤ 2 ^ 62) }
+        ensures refused { IfErr result (λ e. e ≡ NumberTooLarge → 2 ^ 62 < self.old.next + count) }
+        ensures memory { IfErr result (λ e. e ≡ Memory → self.old.next + count ≤ 2 ^ 62) }
+        ensures unchanged { OnErr result (self.new ≡ self.old) }
+    {
+        let first = self.next;
+        if first > END_OF_NUMBERS || count > END_OF_NUMBERS - first {
+            return Err(ReserveError::NumberTooLarge);
+        }
+        let (source, shift) = match self.pieces.last() {
+            Some(piece) => (piece.source, piece.shift),
+            None => (0, 0),
+        };
+        self.begin(source, END_OF_NUMBERS, shift)?;
+        self.next = first + count;
+        Ok(first)
     }
 
     /// Begins a piece.

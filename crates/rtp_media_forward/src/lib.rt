@@ -1,8 +1,12 @@
 //! Packets of one stream or of several, sent on as those of another.
 #![tactic(auto)]
 
+mod chains;
 mod forwarder;
 mod laws;
+mod steps;
 
-pub use forwarder::{Forwarder, Piece, Placed};
+pub use chains::chain_laws;
+pub use forwarder::{Forwarder, Piece, Placed, ReserveError};
 pub use laws::{forwarding_laws, relayed_laws};
+pub use steps::steps_law;

@@ -45,11 +45,11 @@ use Rattle.rtp_media_forward_runs.specs.Virtual.{payloads_of, virtual_datagrams}
 use Rattle.rtp_media_forward_runs.proofs.Hops.{packet-read}
 use Rattle.rtp_media_forward_runs.specs.ForwardedRuns.{AreWritable, HearsRelay, relay_of}
 
-abbrev content_in : Sending → Outgoing → Content
+abbrev pub content_in : Sending → Outgoing → Content
 content_in s o = content_of o.time o.marker (carried s o.values) o.payload
 
 -- what is brought, place by place
-brought-at : (s : Sending) (holding : Holding) (os : List Outgoing) (n i : ℕ) → IsPlain s → AreWritable os
+pub brought-at : (s : Sending) (holding : Holding) (os : List Outgoing) (n i : ℕ) → IsPlain s → AreWritable os
     → i < length os
     → event_in (opened_receiver s.ssrc s.types s.map s.row holding) (slice_index_or (datagrams_from s n os) i [])
     ≡ Some (Comes ((n + i) % 65536) (slice_index_or (map (content_in s) os) i no_content))
@@ -99,7 +99,7 @@ samples-are s own shift (x ∷ xs) =
     (samples-are s own shift xs)
 
 -- contents of payloads
-contents-are : (s : Sending) (own : ExtensionValues → ExtensionValues) (parts : List Part)
+pub contents-are : (s : Sending) (own : ExtensionValues → ExtensionValues) (parts : List Part)
     → map (content_in s) (payloads_of (relayed own parts)) ≡ datagrams (relayed (values_by s own) parts)
 contents-are s own [] = refl
 contents-are s own (p ∷ ps) =
@@ -111,7 +111,7 @@ contents-are s own (p ∷ ps) =
     (relayed_samples (values_by s own) p) (relayed (values_by s own) ps))
 
 -- how many there are
-many : (s : Sending) (own : ExtensionValues → ExtensionValues) (first : ℕ) (parts : List Part)
+pub many : (s : Sending) (own : ExtensionValues → ExtensionValues) (first : ℕ) (parts : List Part)
     → length (virtual_datagrams s own first parts) ≡ count_of parts
 many s own first parts =
     length-datagrams_from s first (payloads_of (relayed own parts)) ∙ payloads-many (relayed own parts)

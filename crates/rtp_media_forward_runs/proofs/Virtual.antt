@@ -18,7 +18,7 @@ use Rattle.rtp_media_forward.proofs.Relayed.{count-is}
 use Rattle.rtp_media_forward_runs.specs.Hops.{datagrams_by, datagrams_on}
 use Rattle.rtp_media_forward_runs.specs.Virtual.{numbered_datagrams, payloads_of, virtual_datagrams}
 
-abbrev as_outgoing : Content → Outgoing
+abbrev pub as_outgoing : Content → Outgoing
 as_outgoing c = outgoing c.bytes c.marker c.time c.values
 
 map-on : {A B : Type 0} (f : A → B) (xs ys : List A) → map f (xs ++ ys) ≡ map f xs ++ map f ys
@@ -32,7 +32,7 @@ sample-payloads time values [] = refl
 sample-payloads time values (p ∷ ps) =
     ap (λ (os : List Outgoing). outgoing p.payload p.marker time values ∷ os) (sample-payloads time values ps)
 
-payloads-are : (ss : List SentSample) → payloads_of ss ≡ map as_outgoing (datagrams ss)
+pub payloads-are : (ss : List SentSample) → payloads_of ss ≡ map as_outgoing (datagrams ss)
 payloads-are [] = refl
 payloads-are (s ∷ ss) =
     ap₂ (λ (xs ys : List Outgoing). xs ++ ys) (sample-payloads s.time s.values s.packets) (payloads-are ss)
@@ -51,7 +51,7 @@ datagram-at s (c ∷ cs) n (suc i) lt =
     datagram-at s cs (n + 1) i (omega arith)
     ∙ ap (λ (k : ℕ). datagram_of s k (as_outgoing (slice_index_or cs i no_content))) e
 
-many : (ss : List SentSample) → length (datagrams ss) ≡ length (packets_of ss)
+pub many : (ss : List SentSample) → length (datagrams ss) ≡ length (packets_of ss)
 many [] = refl
 many (s ∷ ss) =
     length-append (contents_by s.time s.values s.packets) (datagrams ss)
@@ -76,7 +76,7 @@ on-sent s own senders (p ∷ ps) f =
     ∙ sym (map-on (λ (t : Sent). datagram_of s t.number (as_outgoing t.content))
     (sent_by own o (senders p.source p.number)) (sent_on own senders (after_packet f o) ps))
 
-at-numbers : (s : Sending) (first : ℕ) (cs : List Content) (from end : ℕ) (ys : List ℕ) → first ≤ from
+pub at-numbers : (s : Sending) (first : ℕ) (cs : List Content) (from end : ℕ) (ys : List ℕ) → first ≤ from
     → end ≤ first + length cs → AreBetween from end ys
     → map (λ (t : Sent). datagram_of s t.number (as_outgoing t.content)) (datagrams_at (numbered first cs) ys)
     ≡ numbered_datagrams first (datagrams_from s first (map as_outgoing cs)) ys

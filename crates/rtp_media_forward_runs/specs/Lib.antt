@@ -1,4 +1,6 @@
 pub mod FirstHop
 pub mod ForwardedRuns
 pub mod Hops
+pub mod Published
+pub mod Steps
 pub mod Virtual

@@ -3,6 +3,10 @@
 
 mod over_ends;
 mod over_hops;
+mod over_steps;
+mod published;
 
 pub use over_ends::forwarded_runs_law;
 pub use over_hops::{first_hop_law, hops_laws};
+pub use over_steps::steps_over_hops_law;
+pub use published::published_law;

@@ -178,24 +178,35 @@ pub fn run_lines<R: Read, W: Write, A: Respond>(
 /// Answers lines that are at hand by `responder`, as [`run_lines`] does; what it would write, and its status.
 ///
 /// # Errors
-/// If memory runs out, and where the lines don't end within [`MAX_READS`] reads of 4,096 bytes.
+/// If memory runs out.
 pub fn answer_lines<A: Respond>(
     alloc: Global,
     lines: &[u8],
     responder: &mut A,
-) -> Result<(Vec<u8>, Status), RunFault>
-    ensures answered { IfOk result (λ r. Printed A.gives responder.old responder.new (Some []) (Some r.0.items)
-        lines.now r.1) }
-    ensures fault { IfErr result (λ e. e ≢ Write) }
+) -> Result<(Vec<u8>, Status), AllocError>
+    ensures { IfOk result (λ r. Printed A.gives responder.old responder.new (Some []) (Some r.0.items) lines.now r.1) }
 {
-    let mut reader = lines;
     let mut replies = Vec::new(alloc);
-    match run_lines(alloc, &mut reader, &mut replies, responder) {
+    match answer_whole(alloc, lines, responder, &mut replies) {
         Ok(status) => Ok((replies, status)),
-        // A list takes whatever is written while there is memory.
-        Err(RunFault::Write) => Err(RunFault::Memory),
-        Err(fault) => Err(fault),
+        // Nothing is read, and a list takes whatever is written while there is memory.
+        Err(_) => Err(AllocError),
     }
+}
+
+/// Answers lines, the last one too.
+fn answer_whole<W: Write, A: Respond>(
+    alloc: Global,
+    lines: &[u8],
+    responder: &mut A,
+    writer: &mut W,
+) -> Result<Status, RunFault>
+    ensures { IfOk result (λ status. Printed A.gives responder.old responder.new (W.contents writer.old)
+        (W.contents writer.new) lines.now status) }
+{
+    let mut line = LineBuffer::new(alloc);
+    let status = take_piece(alloc, lines, Status::Success, &mut line, responder, writer)?;
+    take_end(alloc, status, &line, responder, writer)
 }
 
 /// Does what [`run_lines`] does in at most `reads` reads.

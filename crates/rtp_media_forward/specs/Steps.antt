@@ -1,0 +1,93 @@
+-- A whole run of a forwarder: packets that come, and parts that begin and end between them.
+use Rattle.std.specs.Prelude.{◌≡◌, ℕ, ◌+◌, ◌-◌, ◌⊎◌, List, [], ◌∷◌, ◌++◌, length, Option, Some, None, slice_get}
+use Rattle.rtp_wire.specs.declared.values.ExtensionValues.{ExtensionValues}
+use Rattle.rtp_media_schedules.specs.Hearing.{Content}
+use Rattle.rtp_media_forward.specs.Forwarding.{Forwarding, after_packet, end_of_numbers, ended, reserved, shift_to}
+use Rattle.rtp_media_forward.specs.Forwarding.{skipped, switched}
+use Rattle.rtp_media_forward.specs.Relayed.{IsWithin, Part, count_in, count_of}
+use Rattle.rtp_media_forward.specs.Relaying.{Packet, Sent, number_of, place_of, sent_by}
+use Rattle.rtp_media_forward.specs.declared.forwarder.Piece.{Piece}
+
+-- A packet comes; or one of the forwarder's calls is made.
+pub data Step : Type 0 where
+  Come : (packet : Packet) → Step
+  Switch : (source number time at : ℕ) → Step
+  SkipTo : (number : ℕ) → Step
+  EndAt : (number : ℕ) → Step
+  Reserve : (count : ℕ) → Step
+
+abbrev pub after_step : (ℕ → ℕ → Content) → Forwarding → Step → Forwarding
+after_step senders f (Come p) = after_packet f (place_of senders f p)
+after_step senders f (Switch source number time at) = switched f source number time at
+after_step senders f (SkipTo number) = skipped f number
+after_step senders f (EndAt number) = ended f number
+after_step senders f (Reserve count) = reserved f count
+
+-- What is sent on at a step, and under which number.
+abbrev pub sent_at : (ExtensionValues → ExtensionValues) → (ℕ → ℕ → Content) → Forwarding → Step → List Sent
+sent_at values senders f (Come p) = sent_by values (place_of senders f p) (senders p.source p.number)
+sent_at values senders f (Switch source number time at) = []
+sent_at values senders f (SkipTo number) = []
+sent_at values senders f (EndAt number) = []
+sent_at values senders f (Reserve count) = []
+
+abbrev pub numbers_at : (ℕ → ℕ → Content) → Forwarding → Step → List ℕ
+numbers_at senders f (Come p) = number_of (place_of senders f p)
+numbers_at senders f (Switch source number time at) = []
+numbers_at senders f (SkipTo number) = []
+numbers_at senders f (EndAt number) = []
+numbers_at senders f (Reserve count) = []
+
+-- The same of a whole run.
+abbrev pub sent_in : (ExtensionValues → ExtensionValues) → (ℕ → ℕ → Content) → Forwarding → List Step → List Sent
+sent_in values senders f [] = []
+sent_in values senders f (x ∷ xs) = sent_at values senders f x ++ sent_in values senders (after_step senders f x) xs
+
+abbrev pub numbers_in : (ℕ → ℕ → Content) → Forwarding → List Step → List ℕ
+numbers_in senders f [] = []
+numbers_in senders f (x ∷ xs) = numbers_at senders f x ++ numbers_in senders (after_step senders f x) xs
+
+-- A part of this source begins at this number, with this shift.
+pub record Begins (q : Part) (source first shift : ℕ) : Type 0 where
+  pub source_is : q.source ≡ source
+  pub first_is : q.first ≡ first
+  pub shift_is : q.shift ≡ shift
+
+-- The same for one that continues the source of the piece before it.
+abbrev pub GoesOnFrom : Option Piece → Part → ℕ → Type 0
+GoesOnFrom None q first = ⊥
+GoesOnFrom (Some p) q first = Begins q p.source first p.shift
+
+-- The part of numbers that are reserved: those of the piece before it, if there is one, at numbers that no source has.
+abbrev pub IsKeptBy : Option Piece → Part → Type 0
+IsKeptBy None q = Begins q 0 end_of_numbers 0
+IsKeptBy (Some p) q = Begins q p.source end_of_numbers p.shift
+
+abbrev pub last_piece : Forwarding → Option Piece
+last_piece f = slice_get f.pieces (length f.pieces - 1)
+
+-- What a step needs after these parts: a packet isn't one of the last part's source after its end.
+abbrev pub IsSound : List Part → Step → Type 0
+IsSound begun (Come p) = IsWithin begun p.source p.number
+IsSound begun (Switch source number time at) = ⊥
+IsSound begun (SkipTo number) = ⊥
+IsSound begun (EndAt number) = Unit {0}
+IsSound begun (Reserve count) = ⊥
+
+-- A part that begins at a step.
+abbrev pub BeginsAt : Forwarding → Step → Part → Type 0
+BeginsAt f (Come p) q = ⊥
+BeginsAt f (Switch source number time at) q = Begins q source number (shift_to time at)
+BeginsAt f (SkipTo number) q = GoesOnFrom (last_piece f) q number
+BeginsAt f (EndAt number) q = ⊥
+BeginsAt f (Reserve count) q = IsKeptBy (last_piece f) q × (count_in q ≡ count)
+
+-- A run that sends parts on, where the first of them have begun: each later one begins once all numbers of those before
+-- it are given or told.
+abbrev pub IsRun : (ℕ → ℕ → Content) → ℕ → List Part → Forwarding → List Part → List Step → Type 0
+IsRun senders first begun f later [] = Unit {0}
+IsRun senders first begun f [] (x ∷ xs) = IsSound begun x × IsRun senders first begun (after_step senders f x) [] xs
+IsRun senders first begun f (q ∷ later) (x ∷ xs) =
+    (IsSound begun x × IsRun senders first begun (after_step senders f x) (q ∷ later) xs)
+    ⊎ ((f.next ≡ first + count_of begun) × BeginsAt f x q
+    × IsRun senders first (begun ++ q ∷ []) (after_step senders f x) later xs)
