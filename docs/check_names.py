@@ -7,8 +7,9 @@ headline of README that of PROMISES. On any page but CHANGELOG, which tells what
 underscore stands somewhere in the tree, and a block behind a line `<!-- FILE -->` word for word in that file, at one
 depth of indentation. No other line is longer than 120 characters, README has at most 130 lines, and each link within
 the repository leads to a file, and to a heading of it. Each wrong body in wrong_bodies/ and crates/*/must-fail/ changes
-text that its file has once. A name is imported from the crate that defines it: only the crates for users hand names on,
-each straight from its crate, and only programs take them there. What calls of the library for C answer is numbered
+text that its file has once. Counts on pages are those of the tree, if this script can tell, and premises that nothing
+meets those of docs/premises.py. A name is imported from the crate that defines it: only the crates for users hand names
+on, each straight from its crate, and only programs take them there. What calls of the library for C answer is numbered
 alike in its crate, its header, and the packages for Rust, Go and Python. Prints what is missing, and ends with status 1
 then.
 """
@@ -251,6 +252,15 @@ def stale_edits():
                 texts[file] = texts[file].replace(old, text, 1)
 
 
+def unmet_premises():
+    """Premises within clauses that no proof meets stand on docs/PROMISES.md, and no others do."""
+    unmet = subprocess.run([sys.executable, ROOT / "docs/premises.py", "unmet"], capture_output=True, text=True).stdout
+    said = (ROOT / "docs/PROMISES.md").read_text(encoding="utf-8").split("[premises.py](premises.py)")[1].split("\n\n")[0]
+    told = set(re.findall(r"`(\w+)`", said))
+    for name in sorted(told ^ set(unmet.split())):
+        yield f"docs/PROMISES.md: {name} is {'met' if name in told else 'a premise that nothing meets'}"
+
+
 def imported(text, crates):
     """Each crate and name that a file of code names by `use CRATE::..` or `CRATE::name`."""
     for crate, one, many in re.findall(r"\b(\w+)::(?:([A-Za-z_]\w*)|\{([^{}]*)\})", text):
@@ -336,6 +346,29 @@ def differing_codes():
                 yield f"{file}: the text of {code} isn't that of include/jilqamur.h"
 
 
+def number_on(page, pattern):
+    """The number that stands at this place of a page, blanks and ends of lines aside; -1 without one."""
+    found = re.search(pattern, " ".join((ROOT / "docs" / page).read_text(encoding="utf-8").split()))
+    return int(found[1].replace(",", "")) if found else -1
+
+
+def differing_counts():
+    """Numbers on pages that the tree has too: runs, limits, codes."""
+    runs = (CRATES / "rtpexplain/stdin").read_text(encoding="utf-8").split("# Worked rows\n")[1]
+    worked, drawn = runs.split("# Schedules drawn by docs/vectors/schedules.py\n")
+    before, after = (len(part.strip("\n").split("\n\n")) for part in (worked, drawn))
+    header = (ROOT / "include/jilqamur.h").read_text(encoding="utf-8")
+    steps = re.search(r"^STEPS = (\d+)", (ROOT / "tests/limited_memory.py").read_text(encoding="utf-8"), re.M)
+    for page, pattern, counted in (
+            ("WORKED_ROWS.md", r"After run ([\d,]+) are", before),
+            ("WORKED_ROWS.md", r"After run [\d,]+ are ([\d,]+) runs", after),
+            ("TESTS.md", r"`rtplines` under ([\d,]+) limits", int(steps[1])),
+            ("DECISIONS.md", r"numbers from 0 to ([\d,]+), the same in the header",
+             max(int(code) for code in re.findall(r"\bJILQAMUR_\w+ = (\d+)", header)))):
+        if number_on(page, pattern) != counted:
+            yield f"docs/{page}: {number_on(page, pattern)} is said, and {counted} counted ({pattern})"
+
+
 found = [
     *differing_codes(),
     *differing_picture(),
@@ -349,6 +382,8 @@ found = [
     *dead_links(),
     *differing_headline(),
     *stale_edits(),
+    *differing_counts(),
+    *unmet_premises(),
     *detours(),
 ]
 for line in found:

@@ -129,6 +129,10 @@ CANDIDATE = re.compile(
     r"(?: ufrag ([^ ]+))?(?: network-cost [^ ]+)?")
 
 
+# How a candidate was found (RFC 8839 5.1).
+FOUND = {"host": "local", "srflx": "told by a server", "prflx": "told by the peer", "relay": "of a relay"}
+
+
 def candidate(value):
     m = CANDIDATE.fullmatch(value)
     if not m:
@@ -141,7 +145,8 @@ def candidate(value):
     text += f" raddr {raddr} rport {read[3]}" if raddr else ""
     text += f" tcptype {tcptype}" if tcptype else ""
     text += f" ufrag {ufrag}" if ufrag else ""
-    return text, (address, read[2], lower(proto), tcptype or "-", ufrag or "-")
+    related = f"{raddr} port {read[3]}" if raddr else "-"
+    return text, (address, read[2], lower(proto), FOUND[kind], related, tcptype or "-", ufrag or "-")
 
 
 def whole(name):

@@ -194,7 +194,7 @@ def of_text(command, word, text):
 def of_candidate(text):
     if (said := sessions.candidate(text)) is None:
         return "no candidate"
-    return "{}: at {}, port {}, by {}, opened {}, of {}".format(said[0], *said[1])
+    return "{}: at {}, port {}, by {}, {}, from {}, opened {}, of {}".format(said[0], *said[1])
 
 
 def of_fingerprint(text):

@@ -1,8 +1,8 @@
 //! Commands on values that come alone: candidates, fingerprints, setups and parameters of formats.
 
 use sdp_formats::{
-    Candidate, Fingerprint, FingerprintError, FormatParams, Joined, Refusal, candidate_of,
-    fingerprint_of, setup_of,
+    Candidate, CandidateKind, Fingerprint, FingerprintError, FormatParams, Joined, Refusal,
+    RelatedAddress, candidate_of, fingerprint_of, setup_of,
 };
 use std::alloc::Global;
 use std::hash::{DefaultHasher, Hash, Hasher};
@@ -22,8 +22,30 @@ fn put_parts(alloc: Global, candidate: &Candidate, reply: &mut ReplyText) {
     reply.say(": at ", &candidate.addr());
     reply.say(", port ", &candidate.port());
     reply.say(", by ", &candidate.proto().as_str());
+    reply.put(kind_of(candidate.kind()));
+    put_related(candidate.related(), reply);
     reply.say_or_dash(", opened ", &candidate.tcptype());
     reply.say_or_dash(", of ", &candidate.ufrag());
+}
+
+/// How it was found (RFC 8839 5.1).
+fn kind_of(kind: CandidateKind) -> &'static str {
+    match kind {
+        CandidateKind::Host => ", local",
+        CandidateKind::ServerReflexive => ", told by a server",
+        CandidateKind::PeerReflexive => ", told by the peer",
+        CandidateKind::Relayed => ", of a relay",
+    }
+}
+
+fn put_related(related: Option<&RelatedAddress>, reply: &mut ReplyText) {
+    match related {
+        Some(related) => {
+            reply.say(", from ", &related.addr);
+            reply.say(" port ", &related.port);
+        }
+        None => reply.put(", from -"),
+    }
 }
 
 /// `fingerprint TEXT`: the fingerprint of a text of its own, printed, the place of its hash function, and whether it is

@@ -1,17 +1,18 @@
 //! Rows of a stream's life: numbers that are missing, numbers that two streams share, and streams that are closed.
 
+use media_types::Codec;
 use payload_core_buffer::MIN_HELD;
 use rtp_media_ends::{End, OpenError, StreamParams};
-use rtp_media_stream_table::Received;
-use rtp_media_streams::Datagram;
-use rtp_wire::{ExtensionValues, Frequency, MediaTime, Mid, Pt, SeqNo, Ssrc};
+use rtp_media_stream_table::{Received, StreamTable};
+use rtp_media_streams::{Datagram, PayloadTypes, ReceivingStream, RepairKey, RowFormat};
+use rtp_wire::{ExtensionMap, ExtensionValues, Frequency, MediaTime, Mid, Pt, SeqNo, Ssrc};
 use std::alloc::Global;
 
 /// The payload type of Opus at a fixed end.
 const TYPE: u8 = 111;
 
 /// What each row does, and whether it came out as it must.
-pub(crate) fn stream_rows(alloc: Global) -> [(&'static str, Option<bool>); 6] {
+pub(crate) fn stream_rows(alloc: Global) -> [(&'static str, Option<bool>); 8] {
     [
         (
             "missing numbers, and numbers that are done with",
@@ -33,6 +34,14 @@ pub(crate) fn stream_rows(alloc: Global) -> [(&'static str, Option<bool>); 6] {
         (
             "a sender that is closed and opened again",
             a_sender_again(alloc),
+        ),
+        (
+            "streams that have one type in common",
+            Some(streams_in_common()),
+        ),
+        (
+            "a unit's values are its last packet's",
+            values_of_the_last_packet(alloc),
         ),
     ]
 }
@@ -235,4 +244,64 @@ fn has_number(datagrams: &[Datagram], number: u8) -> bool {
 /// Whether these are these numbers.
 fn are_numbers(numbers: &[SeqNo], wanted: &[u64]) -> bool {
     numbers.len() == wanted.len() && numbers.iter().zip(wanted).all(|(a, b)| a.get() == *b)
+}
+
+/// Two streams of one SSRC have a datagram in common by redundancy alone, and two streams of different ones by their
+/// repairs alone.
+fn streams_in_common() -> bool {
+    let (first, second) = (Ssrc::from(44), Ssrc::from(46));
+    let key = RepairKey {
+        ssrc: Ssrc::from(45),
+        pt: Pt::from(97),
+    };
+    let red = types(111, Some(Pt::from(63)), None);
+    let other_red = types(0, Some(Pt::from(63)), None);
+    let repaired = types(96, None, Some(key));
+    let other_repaired = types(98, None, Some(key));
+    red.share_key(first, first, &other_red)
+        && !red.share_key(first, second, &other_red)
+        && !red.share_key(first, first, &types(0, None, None))
+        && repaired.share_key(first, second, &other_repaired)
+        && !repaired.share_key(first, second, &types(98, None, None))
+}
+
+/// A row's types: its own, that of redundancy, and where its repairs come.
+fn types(pt: u8, red: Option<Pt>, repair: Option<RepairKey>) -> PayloadTypes {
+    PayloadTypes {
+        pt: Pt::from(pt),
+        red,
+        repair,
+    }
+}
+
+/// Of a frame of VP8 in two packets whose header extensions differ, the unit has what the second one says.
+fn values_of_the_last_packet(alloc: Global) -> Option<bool> {
+    let row = RowFormat {
+        codec: Codec::Vp8,
+        clock_rate: Frequency::NINETY_KHZ,
+        octet_align: None,
+        sprop_max_don_diff: None,
+    };
+    let (ssrc, exts) = (Ssrc::from(44), ExtensionMap::standard());
+    let stream = ReceivingStream::new(alloc, ssrc, types(96, None, None), exts, row, 15, MIN_HELD);
+    let mut table = StreamTable::new(alloc);
+    if table.could_receive(stream.ssrc(), &stream.types()) {
+        return None;
+    }
+    let stream = table.add_receiver(stream).ok()?;
+    let _ = table.receive(&named_packet(0x60, 0, b'x', 0x10)).ok()?;
+    let _ = table.receive(&named_packet(0xe0, 1, b'y', 0x00)).ok()?;
+    if !table.is_receiver(stream) {
+        return None;
+    }
+    let unit = table.poll(stream).ok()??;
+    Some(unit.ext_vals().mid == Some(Mid::from("y")))
+}
+
+/// A packet of VP8 of section `name` (RFC 9143 15.1), with this marker and type, number and first byte of its payload.
+fn named_packet(marked: u8, number: u8, name: u8, first: u8) -> [u8; 22] {
+    [
+        0x90, marked, 0, number, 0, 0, 0, 0, 0, 0, 0, 44, 0xbe, 0xde, 0, 1, 0x40, name, 0, 0,
+        first, 0xaa,
+    ]
 }
