@@ -11,7 +11,8 @@ ghost use Rattle.rtp_media_ends.specs.Ends.{agreed_red, end_of, is_carried, new_
 ghost use Rattle.rtp_media_stream_table.specs.Streams.{receives_as};
 ghost use Rattle.rtp_media_ends.specs.Ends.{refusal_of_open_receiver, refusal_of_open_sender};
 ghost use Rattle.rtp_media_ends.specs.Ends.{refusal_of_open_unsignalled};
-ghost use Rattle.rtp_media_ends.specs.Ends.{row_sender, with_distances};
+ghost use Rattle.rtp_media_ends.specs.Ends.{row_format_of, row_sender, with_distances};
+ghost use Rattle.rtp_media_streams.specs.Receiving.{opened_receiver};
 ghost use Rattle.rtp_media_stream_table.specs.Streams.{sends_as};
 ghost use Rattle.rtp_media_ends.specs.FullArrival.{IsSender};
 ghost use Rattle.rtp_media_ends.specs.Params.{IsSound};
@@ -90,8 +91,7 @@ pub fn new_receiver(
 {
     let (row, types) = receiver_row(exchange, streams, mid, ssrc, pt)?;
     let exts = exts_of(alloc, exchange, mid)?;
-    let format = row_format_of(&row);
-    Ok(ReceivingStream::new(alloc, ssrc, types, exts, format, hold_back, held))
+    Ok(receiver_of(alloc, ssrc, types, exts, &row, hold_back, held))
 }
 
 /// The receiving stream of this SSRC, which the section's sender names unless it names none, as [`new_receiver`].
@@ -121,8 +121,7 @@ pub fn new_unsignalled(
 {
     let (row, types) = unsignalled_row(exchange, streams, mid, ssrc, pt)?;
     let exts = exts_of(alloc, exchange, mid)?;
-    let format = row_format_of(&row);
-    Ok(ReceivingStream::new(alloc, ssrc, types, exts, format, hold_back, held))
+    Ok(receiver_of(alloc, ssrc, types, exts, &row, hold_back, held))
 }
 
 /// The map of header extensions of a new stream in a section of this name.
@@ -133,6 +132,24 @@ fn exts_of(alloc: Global, exchange: &Exchange, mid: Mid) -> Result<ExtensionMap,
         Some(section) => section.exts().clone(alloc),
         None => Ok(ExtensionMap::empty()),
     }
+}
+
+/// A new receiving stream of a row, under these types of it and this map of header extensions.
+fn receiver_of(
+    alloc: Global,
+    ssrc: Ssrc,
+    types: PayloadTypes,
+    exts: ExtensionMap,
+    row: &PayloadParams,
+    hold_back: usize,
+    held: usize,
+) -> ReceivingStream
+    requires carried { is_carried row.now ≡ true }
+    requires held { may_hold held ≡ true }
+    ensures { result ≡ opened_receiver ssrc types exts (row_format_of row.now) (holding_of hold_back held) }
+{
+    let format = row_format_of(row);
+    ReceivingStream::new(alloc, ssrc, types, exts, format, hold_back, held)
 }
 
 /// A new sending stream of a row, under these types of it and this map of header extensions.
