@@ -10,14 +10,18 @@ use Rattle.rtp_media_streams.specs.Passing.{passed_to}
 abbrev pub fragment_len : Fragment → ℕ
 fragment_len fragment = length (unwrap_or fragment [])
 
--- The stream that is done with all numbers up to this one, if there is one.
+-- The stream without an open fragment.
+abbrev pub closed : Stream → Stream
+closed s = record s { fragment = None }
+
+-- The stream that is done with all numbers up to this one, if there is one, and gives an open fragment up then.
 abbrev pub passed_if : Option ℕ → Stream → Stream
 passed_if None s = s
-passed_if (Some number) s = passed_to number s
+passed_if (Some number) s = closed (passed_to number s)
 
 -- The stream without a fragment of more than so many bytes.
 abbrev pub closed_within : ℕ → Stream → Stream
-closed_within bytes s = if nat_le (fragment_len s.fragment) bytes then s else record s { fragment = None }
+closed_within bytes s = if nat_le (fragment_len s.fragment) bytes then s else closed s
 
 -- The stream within a limit of bytes: of the packets that wait those with the highest numbers stay, whose payloads have
 -- at most so many bytes together, and a fragment stays open if it has no more.

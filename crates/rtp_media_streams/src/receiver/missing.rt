@@ -2,8 +2,9 @@
 
 ghost use Rattle.std.specs.Prelude.{◌≡◌, ◌≤◌, IfOk};
 ghost use Rattle.payload_core_buffer.specs.Buffered.{is_done};
-ghost use Rattle.payload_core_buffer.specs.Sizes.{bytes_of};
-ghost use Rattle.rtp_media_streams.specs.Limits.{fragment_len, is_next, kept_within, passed_empty};
+ghost use Rattle.payload_core_buffer.specs.Sizes.{bytes_of, excess};
+ghost use Rattle.rtp_media_streams.specs.Limits.{closed, fragment_len, is_next, kept_within, passed_empty};
+ghost use Rattle.rtp_media_streams.specs.Limits.{passed_if};
 ghost use Rattle.rtp_media_streams.specs.Missing.{is_awaited, missing, missing_in};
 ghost use Rattle.rtp_media_streams.specs.Passing.{passed_to};
 ghost use Rattle.rtp_media_streams.specs.Receiving.{with_stream};
@@ -93,10 +94,29 @@ impl ReceivingStream {
         ensures packets { bytes_of self.new.stream.held ≤ bytes }
         ensures fragment { fragment_len self.new.stream.fragment ≤ bytes }
     {
-        if self.buffer.keep_within(bytes) || self.buffer.depacketizer().fragment_len() > bytes {
-            let depacketizer = depacketizer_for(self.alloc, &self.row);
-            self.buffer.set_depacketizer(depacketizer);
+        self.keep_packets_within(bytes);
+        if self.buffer.depacketizer().fragment_len() > bytes {
+            self.close_fragment();
         }
+    }
+
+    /// Keeps the packets that wait within a limit of bytes; a fragment is given up if any packet went.
+    fn keep_packets_within(&mut self, bytes: usize)
+        ensures after { self.new ≡ with_stream self.old (passed_if (excess bytes self.old.stream.held)
+            self.old.stream) }
+        ensures packets { bytes_of self.new.stream.held ≤ bytes }
+    {
+        if self.buffer.keep_within(bytes) {
+            self.close_fragment();
+        }
+    }
+
+    /// Gives an open fragment up.
+    fn close_fragment(&mut self)
+        ensures { self.new ≡ with_stream self.old (closed self.old.stream) }
+    {
+        let depacketizer = depacketizer_for(self.alloc, &self.row);
+        self.buffer.set_depacketizer(depacketizer);
     }
 
     /// The missing numbers, in increasing order: those after the last unit's, or, before any unit, after the lowest
