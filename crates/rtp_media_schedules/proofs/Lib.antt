@@ -15,3 +15,4 @@ pub mod Polls
 pub mod PollSteps
 pub mod Drains
 mod NotLegal
+pub mod HoldBacks

@@ -7,3 +7,4 @@ pub mod Samples
 pub mod Legal
 pub mod Drains
 pub mod TrueNumbers
+pub mod HoldBacks

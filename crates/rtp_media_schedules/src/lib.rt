@@ -2,10 +2,12 @@
 //! polls, for every payload format: legal under each sane one, exact under each tame one.
 #![tactic(auto)]
 
+mod hold_back;
 mod illegal;
 mod laws;
 mod runs;
 
+pub use hold_back::hold_back_law;
 pub use illegal::not_legal;
 pub use laws::{
     exact_after_full_arrival, exact_under_tame_schedule, legal_under_sane_schedule,
