@@ -402,17 +402,43 @@ def section_of(lines):
     return section
 
 
-def has_fault(section):
+def fault_of(section):
+    """What is wrong with a section first, or none."""
     mapped = [pt for pt, *_ in section.of("rtpmap")]
     is_rtp = section.proto == "UDP/TLS/RTP/SAVPF"
     apts = {}
     for pt, params in section.of("fmtp"):
         apts.setdefault(pt, set()).update(p[1] for p in params if p and p[0] == "apt")
-    return (len(section.of("mid")) != 1 or len(section.of("setup")) > 1
-            or is_rtp and len([a for a in section.attributes if a.kind in DIRECTIONS]) != 1
-            or is_rtp and not section.types and not section.disabled
-            or any(mapped.count(pt) != 1 and not (pt in STATIC and pt not in mapped) for pt in section.types)
-            or any(len(named) > 1 for named in apts.values()))
+    tests = [
+        ("a section without a=mid", not section.of("mid")),
+        ("a section with several a=mid", len(section.of("mid")) > 1),
+        ("a section with several a=setup", len(section.of("setup")) > 1),
+        ("a section without exactly one direction",
+         is_rtp and len([a for a in section.attributes if a.kind in DIRECTIONS]) != 1),
+        ("a section without payload types", is_rtp and not section.types and not section.disabled),
+        ("a section with a payload type that isn't mapped once",
+         any(mapped.count(pt) != 1 and not (pt in STATIC and pt not in mapped) for pt in section.types)),
+        ("a section with a payload type that repairs several", any(len(named) > 1 for named in apts.values()))]
+    return next((words for words, is_so in tests if is_so), None)
+
+
+def faulty_line(text):
+    """The line at which a text can't be read on, with its number and what is wrong there, or none."""
+    lines = Lines(text)
+
+    def line_at(at, fault):
+        line = text[at:].split("\n")[0].removesuffix("\r")
+        return f"line {text[:at].count(chr(10)) + 1}: {fault}" + (f": {line}" if line else "")
+
+    if session_of(lines) is None:
+        read_on = text[:lines.at].count("\n")
+        return line_at(lines.at, ["not v=0", "no valid o=", "no s= with a name", "not t=0 0"][min(read_on, 3)])
+    at = lines.at
+    while (section := section_of(lines)) is not None:
+        if (fault := fault_of(section)) is not None:
+            return line_at(at, fault)
+        at = lines.at
+    return line_at(at, "fits nowhere") if lines.left() else None
 
 
 def read(text):
@@ -423,7 +449,7 @@ def read(text):
         return None
     while (section := section_of(lines)) is not None:
         session.sections.append(section)
-    return None if any(map(has_fault, session.sections)) else (session, lines.left())
+    return None if any(map(fault_of, session.sections)) else (session, lines.left())
 
 
 def printed(session):

@@ -18,8 +18,8 @@ from sessions import DIRECTIONS, ORDER, fingerprint, lower, param, param_text, p
 CRATE = Path(__file__).resolve().parents[2] / "crates/sdp_lines"
 READ = CRATE / "data"
 ALONE = ("candidate", "fingerprint", "setup", "parameters")
-PARTS = (("text", "prefixes", "session"), ("printed", "offer", "answer"), ("attributes", "directed", "listed"), ("says",),
-         ALONE)  # a command that isn't known stands in the first
+PARTS = (("text", "prefixes", "session", "faulty"), ("printed", "offer", "answer"),
+         ("attributes", "directed", "listed"), ("says",), ALONE)  # a command that isn't known stands in the first
 TEXTS = Path(__file__).with_name("texts.txt")
 
 
@@ -179,6 +179,8 @@ def of_text(command, word, text):
         fronts = [text[:n] for n in range(len(text) + 1)]
         count = sum(read(front) is not None for front in fronts)
         return [f"{count} prefixes are session texts, {len(fronts) - count} are none"]
+    if command == "faulty":
+        return [sessions.faulty_line(text) or "read to its end"]
     if (said := read(text)) is None:
         return ["no session text"]
     session, left = said

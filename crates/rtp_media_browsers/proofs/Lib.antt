@@ -14,3 +14,4 @@ pub mod Whole
 pub mod RoleLaws
 pub mod OrderLaw
 pub mod EndTextLaw
+pub mod EachAnswered

@@ -1,3 +1,4 @@
+pub mod AnswerLaws
 pub mod Asking
 pub mod Calls
 pub mod Defaults

@@ -2,6 +2,7 @@
 
 ghost use Rattle.std.specs.Prelude.{List};
 ghost use Rattle.sdp_formats_data.specs.declared.media.MediaLine.{MediaLine};
+ghost use Rattle.rtp_media_browsers.specs.AnswerLaws.{AnswersEachSection};
 ghost use Rattle.rtp_media_browsers.specs.Laws.{AreWanted, ComesBack, EachInItsPlace, GoesOn, IsHalted, LinesStay};
 ghost use Rattle.rtp_media_browsers.specs.Laws.{NothingChanges, SectionsComeBack, TakenAreRejected};
 ghost use Rattle.rtp_media_browsers.specs.StandardLaws.{EndsWriteEndTexts, OrdersTypes, RolesFit, TellsByLevels};
@@ -23,6 +24,13 @@ pub fn return_law()
 pub fn places_law()
     ensures placed { EachInItsPlace }
     ensures rejected { TakenAreRejected }
+{}
+
+/// An answer for a browser, of its first offer or a later one, has a section for each of the offer's, in its place and
+/// under its name; port 0 is that of exactly those that aren't answered, and the bundle names exactly the others (RFC
+/// 3264 6, RFC 8829 5.3.1, RFC 9143 7.3.3).
+pub fn answer_law()
+    ensures { AnswersEachSection }
 {}
 
 /// Whatever the browser stops, an end is handed its own sections first and in its order, so that it never refuses a

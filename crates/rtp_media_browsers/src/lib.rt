@@ -34,8 +34,8 @@ pub use defaults::{map_for_browsers, rows_for_browsers};
 pub use error::BrowserError;
 pub use identity::{Identity, Said, Track};
 pub use laws::{
-    end_text_law, following_law, levels_law, lines_law, order_law, places_law, return_law,
-    roles_law,
+    answer_law, end_text_law, following_law, levels_law, lines_law, order_law, places_law,
+    return_law, roles_law,
 };
 pub use plan::{Place, Plan, Remote};
 pub use transport::{Gathering, Transport};

@@ -16,6 +16,7 @@ pub use sdp_formats_data::{
     sdp_equality_law, section_equality_law, session_attribute_equality_law, session_equality_law,
     sources_of,
 };
+pub use sdp_formats_faults::{FaultyLine, LineFault, faulty_line};
 pub use sdp_formats_grammar::{FingerprintFmt, Joined, Listed, Maybe, Refusal, Text};
 pub use sdp_formats_reader::{
     fingerprint_of, is_writable_session, sdp_parser, session_parser, setup_of,

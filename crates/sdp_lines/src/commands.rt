@@ -16,6 +16,7 @@ pub(crate) fn answer(rt: &HostRuntime, rows: &mut Rows, line: &str) -> Result<St
         "text"
         | "prefixes"
         | "session"
+        | "faulty"
         | "printed"
         | "offer"
         | "answer"

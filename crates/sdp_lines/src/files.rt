@@ -5,7 +5,7 @@ use crate::exchanged::{put_answer, put_offer};
 use crate::listed::put_listed;
 use crate::printed::put_printed;
 use crate::said::put_said;
-use crate::texts::{put_prefixes, put_refusal, put_session, put_text};
+use crate::texts::{put_faulty, put_prefixes, put_refusal, put_session, put_text};
 use sdp_formats::{Direction, Parse, Sdp};
 use std::alloc::Global;
 use std::fs;
@@ -34,6 +34,7 @@ fn put_command(alloc: Global, command: &str, word: &str, text: &str, reply: &mut
         "text" => put_text(alloc, text, reply),
         "prefixes" => put_prefixes(alloc, text, reply),
         "session" => put_session(alloc, text, reply),
+        "faulty" => put_faulty(alloc, text, reply),
         "printed" => put_printed(alloc, text, reply),
         "offer" => put_offer(alloc, text, reply),
         "answer" => put_answer(alloc, text, reply),

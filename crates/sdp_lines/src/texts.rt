@@ -1,8 +1,8 @@
 //! Commands on whole session texts.
 
 use sdp_formats::{
-    Bandwidth, MediaAttribute, MediaLine, Sdp, SdpError, Session, SessionAttribute, SsrcInfo,
-    sdp_parser, session_parser,
+    Bandwidth, FaultyLine, MediaAttribute, MediaLine, Sdp, SdpError, Session, SessionAttribute,
+    SsrcInfo, faulty_line, sdp_parser, session_parser,
 };
 use std::alloc::Global;
 use words_and_replies::ReplyText;
@@ -123,6 +123,24 @@ pub(crate) fn put_prefixes(alloc: Global, text: &str, reply: &mut ReplyText) {
     reply.say("", &read);
     reply.say(" prefixes are session texts, ", &unread);
     reply.put(" are none");
+}
+
+/// `faulty NAME`: the line at which a session text can't be read on, and what is wrong there.
+pub(crate) fn put_faulty(alloc: Global, text: &str, reply: &mut ReplyText) {
+    match faulty_line(alloc, text) {
+        Ok(Some(line)) => put_line(&line, reply),
+        Ok(None) => reply.put("read to its end"),
+        Err(_) => reply.fail(),
+    }
+}
+
+fn put_line(line: &FaultyLine<'_>, reply: &mut ReplyText) {
+    reply.say("line ", &line.number);
+    reply.say(": ", &line.fault);
+    if !line.text.is_empty() {
+        reply.put(": ");
+        reply.put(line.text);
+    }
 }
 
 /// `session NAME`: what is before the first section: number, bandwidth, attributes, and bytes after it.
