@@ -189,7 +189,7 @@ module _ (e : EndState) (rx : ℕ) (holding : Holding) (s : Sending) (own : Exte
   same = hears.receiver.stream_is
       ∙ ap (with_stream r) (sym (ap (λ (x : Receiving). x.stream) hears.receiver.stream_is))
 
-  run-is : (xs : List Event) → AreForeign s.ssrc s.types xs → poll_answers (played relay rx e xs)
+  pub run-is : (xs : List Event) → AreForeign s.ssrc s.types xs → poll_answers (played relay rx e xs)
       ≡ heard (format_of s.row) (fresh holding)
       (map (event_of sender) (turns_of first (count_of parts) (is_repaired relay) xs))
   run-is xs foreign =

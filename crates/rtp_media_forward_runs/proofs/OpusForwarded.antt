@@ -1,12 +1,14 @@
 -- Two publishers of Opus, a forwarder and a subscriber.
-use Rattle.std.proofs.Common.{◌≡◌, ℕ, zero, suc, ◌+◌, ◌-◌, ◌%◌, ◌^◌, ◌<◌, ◌≤◌, refl, sym, ◌∙◌, ap, ap₂, subst, arith, inl}
-use Rattle.std.proofs.Common.{inr, Bool, true, false, ◌&&◌, List, [], ◌∷◌, ◌++◌, append-nil, drop, length, map, true≢false}
+use Rattle.std.proofs.Common.{◌≡◌, ℕ, zero, suc, ◌+◌, ◌-◌, ◌^◌, ◌<◌, ◌≤◌, refl, sym, ◌∙◌, ap, ap₂, subst, arith, inl}
+use Rattle.std.proofs.Common.{inr, Bool, true, false, ◌&&◌, List, [], ◌∷◌, ◌++◌, append-nil, length, map, true≢false}
 use Rattle.std.proofs.lemmas.Bool.Decides.{nat_tests}
 use Rattle.std.proofs.lemmas.List.{length-drop}
-use Rattle.std.specs.List.{flat_map}
 use Rattle.std.specs.Prelude.{Option, Some, None, Result, Ok, Err, if◌then◌else◌, is_some, nat_lt, ◌==◌, slice_get}
 use Rattle.std.specs.Prelude.{slice_index_or}
 use Rattle.std.specs.Option.{option_map}
+use Rattle.std.specs.Ordering.{match_ordering, nat_cmp}
+use Rattle.std.specs.declared.cmp.Ordering.{Ordering}
+use Rattle.std.specs.declared.cmp.Ordering.TheVariants.{Equal, Greater, Less}
 use Rattle.h26x_payload.specs.Codings as codings
 use Rattle.h26x_payload.specs.Codings.{forms_for}
 use Rattle.h26x_payload.specs.Dispatch.{FirstIsReached, KeepCodecLawInForms}
@@ -16,9 +18,13 @@ use Rattle.payload_core_base.specs.Format.{Format}
 use Rattle.payload_core_base.specs.Outgoing.{Outgoing}
 use Rattle.payload_core_base.specs.Packing.{marked}
 use Rattle.payload_core_base.specs.Stateless.{unit_of_piece}
+use Rattle.payload_core_audio.specs.RedHistory.{Redundancy}
 use Rattle.payload_core_audio.specs.Plain.{pieces_packing, plain_format}
-use Rattle.payload_core_buffer.specs.Buffered.{Holding, held_with, limited}
-use Rattle.payload_core_buffer.specs.Held.{Packet}
+use Rattle.payload_core_buffer.specs.Buffered.{Holding, held_with, is_done, limited}
+use Rattle.payload_core_buffer.specs.Packets.{Packet}
+use Rattle.rtp_wire.specs.Carried.{AreValues}
+use Rattle.rtp_wire.specs.Replay.{is_accepted, recorded_in}
+use Rattle.rtp_wire.specs.Repairs.{repair_of}
 use Rattle.rtp_wire.specs.Header.{header_in, layout_of, payload_in, IsWritable}
 use Rattle.rtp_wire.specs.Header as header
 use Rattle.rtp_wire.specs.Maps.{empty_map}
@@ -26,32 +32,39 @@ use Rattle.rtp_wire.specs.declared.header.RtpHeader.{RtpHeader}
 use Rattle.rtp_wire.specs.declared.values.ExtensionValues.{ExtensionValues}
 use Rattle.rtp_wire.proofs.HeaderLaws.{header_in-layout, payload_in-spelled, IsLayout-of}
 use Rattle.rtp_media_schedules.specs.Hearing as hearing
-use Rattle.rtp_media_schedules.specs.Hearing.{Content, EndsSilent, Stream, content_of, fresh, heard, number_at, taken_by}
+use Rattle.rtp_media_schedules.specs.Hearing.{Content, EndsSilent, Stream, content_of, fresh, heard, number_at, packet_of}
+use Rattle.rtp_media_schedules.specs.Hearing.{taken_by}
 use Rattle.rtp_media_schedules.specs.Orders.{IsGoodPoll, IsTame, first_size}
-use Rattle.rtp_media_schedules.specs.Samples.{SentSample, canonical_units, datagrams, frame_sizes, packets_of, sent_by}
+use Rattle.rtp_media_schedules.specs.Samples.{SentSample, canonical_units, datagrams, frame_sizes, sent_by}
 use Rattle.rtp_media_schedules.specs.Samples.{whole_unit}
-use Rattle.rtp_media_schedules.specs.SentSamples.{Timed, timed}
-use Rattle.rtp_media_schedules.specs.Sending.{numbered}
+use Rattle.rtp_media_schedules.specs.SentSamples.{timed}
+use Rattle.rtp_media_schedules.specs.Sending.{no_content, numbered}
 use Rattle.rtp_media_schedules.specs.Turns as turns
 use Rattle.rtp_media_schedules.specs.Turns.{AllCame, Ask, Turn, event_of}
 use Rattle.rtp_media_schedules.proofs.Polls.{polls-end}
-use Rattle.rtp_media_streams.specs.Receiving.{opened_receiver}
-use Rattle.rtp_media_streams.specs.Repairing.{has_byte, is_plainly_own, own_header_len, repair, repair_by, repair_key}
+use Rattle.rtp_media_stream_table.specs.Arrivals.{Own, arrival_at}
+use Rattle.rtp_media_streams.specs.Receiving.{Receiving, opened_receiver, with_stream}
+use Rattle.rtp_media_streams.specs.Repairing.{has_byte, is_plainly_own, own_header_len, repair, repair_by}
 use Rattle.rtp_media_streams.specs.Repairing.{repair_under}
 use Rattle.rtp_media_streams.specs.Rows.{format_of, settings_in}
-use Rattle.rtp_media_streams.specs.Sending.{Sample, Sending, carried, datagram_of, datagrams_from, datagrams_of, header_of}
+use Rattle.rtp_media_streams.specs.Sending.{IsTypedBy, Sample, Sending, carried, datagram_of, datagrams_of, header_of}
 use Rattle.rtp_media_streams.specs.Sending.{packet_limit, samples_of, timestamp}
 use Rattle.rtp_media_streams.specs.declared.errors.RepairError.{RepairError}
+use Rattle.rtp_media_streams.specs.declared.errors.RepairError.TheVariants.{LimitTooSmall}
 use Rattle.rtp_media_streams.specs.declared.row_format.RowFormat.{RowFormat}
 use Rattle.rtp_media_streams.specs.declared.types.RepairKey.{RepairKey}
 use Rattle.rtp_media_streams.proofs.Sent.{writable}
 use Rattle.rtp_media_ends.specs.Ends.{EndState, after_open_receiver, receiver_at}
-use Rattle.rtp_media_ends.specs.FullArrival.{count_of, sent_samples, units_of}
-use Rattle.rtp_media_runs.specs.Hops.{Hop, limit_over, sender_over}
+use Rattle.rtp_media_ends.specs.FullArrival.{count_of, sent_samples}
+use Rattle.rtp_media_ends.specs.OwnEvents.{event_in}
+use Rattle.rtp_media_ends.proofs.Exact.{all-theirs, brings}
+use Rattle.rtp_media_ends.proofs.RepairedArrivals.{arrives}
+use Rattle.rtp_media_runs.specs.Hops.{Hop, sender_over}
 use Rattle.rtp_media_runs.specs.OpusHops.{CarriesOpus, FitsPacket}
 use Rattle.rtp_media_runs.specs.Runs.{Hears}
-use Rattle.rtp_media_runs.specs.Schedules.{is_made, is_repaired, played, poll_answers, repair_at, turns_of}
+use Rattle.rtp_media_runs.specs.Schedules.{is_made, is_repaired, played, poll_answers, turns_of}
 use Rattle.rtp_media_runs.proofs.Exchanged as exchanged
+use Rattle.rtp_media_runs.proofs.Values.{arriving-are-values}
 use Rattle.rtp_media_runs.proofs.OneSample.{carries-one, counted, in-packet, is-opus, one-piece}
 use Rattle.rtp_media_forward.specs.Forwarding.{nothing_from, shift_to, shifted}
 use Rattle.rtp_media_forward.specs.Relayed as forward
@@ -61,9 +74,9 @@ use Rattle.rtp_media_forward_runs.specs.ForwardedRuns.{HearsRelay}
 use Rattle.rtp_media_forward_runs.specs.Hops.{IsPlain, values_by}
 use Rattle.rtp_media_forward_runs.specs.OpusForwarded.{IsOpusRoom, Room, one_of, one_out, one_repair, other_of, other_out}
 use Rattle.rtp_media_forward_runs.specs.OpusForwarded.{parts_in, publications, relay_in, senders_in, steps_in, stream_in}
-use Rattle.rtp_media_forward_runs.specs.OpusForwarded.{time_over, units_in}
-use Rattle.rtp_media_forward_runs.specs.Published.{ArePublished, Publication, units_on}
-use Rattle.rtp_media_forward_runs.specs.Virtual.{numbered_datagrams, payloads_of, virtual_datagrams}
+use Rattle.rtp_media_forward_runs.specs.OpusForwarded.{time_over, units_in, values_from}
+use Rattle.rtp_media_forward_runs.specs.Published.{ArePublished, unit_on, units_on}
+use Rattle.rtp_media_forward_runs.specs.Virtual.{numbered_datagrams, virtual_datagrams}
 use Rattle.rtp_media_forward_runs.proofs.ForwardedRuns.{run-is}
 
 opus-format : (row : RowFormat) → row.codec ≡ Opus → format_of row ≡ plain_format
@@ -93,20 +106,41 @@ sent-one s x is some fits =
 -- a publisher's hop with its sample
 module _ (law : KeepCodecLawInForms) (reached : FirstIsReached) (h : Hop) (x : Sample) (opus : CarriesOpus h)
     (fits : FitsPacket h x) where
-  abbrev s : Sending
-  s = sender_over h
+  abbrev stream : Sending
+  stream = sender_over h
 
-  pub from-zero : s.next ≡ 0
+  pub from-zero : stream.next ≡ 0
   from-zero = (exchanged.plain law reached h.answer h.sender h.receiver h.mid h.ssrc h.pt h.params [] opus.opened).next
       ∙ opus.first
 
-  pub only-is : sent_samples s (x ∷ []) ≡ only s x
-  only-is = sent-one s x (is-opus law reached h x opus fits) fits.some (in-packet law reached h x opus fits)
+  pub only-is : sent_samples stream (x ∷ []) ≡ only stream x
+  only-is = sent-one stream x (is-opus law reached h x opus fits) fits.some (in-packet law reached h x opus fits)
 
   pub heard-one : Hears (after_open_receiver h.receiver h.mid h.ssrc h.pt h.holding) (length h.receiver.streams)
-      h.holding s (x ∷ [])
+      h.holding stream (x ∷ [])
   heard-one = exchanged.hears law reached h.answer h.sender h.receiver h.mid h.ssrc h.pt h.params (x ∷ [])
       (carries-one law reached h x opus fits) h.holding
+
+  pub taken : arrival_at (after_open_receiver h.receiver h.mid h.ssrc h.pt h.holding).streams
+      (slice_index_or (datagrams_of stream (x ∷ [])) 0 [])
+      ≡ Own (length h.receiver.streams) 0 (time_over h x) false (values_from h x) x.bytes
+  taken =
+      let e : EndState = after_open_receiver h.receiver h.mid h.ssrc h.pt h.holding in
+      let n : ℕ = length h.receiver.streams in
+      let r : Receiving = opened_receiver stream.ssrc stream.types stream.map stream.row h.holding in
+      let back : 0 - stream.next ≡ 0 = omega (arith, from-zero) in
+      let content : Content = numbered stream.next (datagrams (sent_samples stream (x ∷ []))) 0 in
+      let same : receiver_at e n ≡ with_stream r (receiver_at e n).stream =
+      heard-one.receiver.stream_is
+      ∙ ap (with_stream r) (sym (ap (λ (y : Receiving). y.stream) heard-one.receiver.stream_is)) in
+      let event : event_in r (slice_index_or (datagrams_of stream (x ∷ [])) 0 []) ≡ Some (hearing.Comes 0 content) =
+      ap (λ (i : ℕ). event_in r (slice_index_or (datagrams_of stream (x ∷ [])) i [])) (sym back)
+      ∙ brings stream r (x ∷ []) 0 (refl, refl, refl) heard-one.sender
+      (all-theirs law stream (x ∷ []) heard-one.sender heard-one.sound) (omega (arith, from-zero))
+      (omega (arith, from-zero, counted law reached h x opus fits)) in
+      arrives e n r same heard-one.receiver.found 0 content (slice_index_or (datagrams_of stream (x ∷ [])) 0 []) event
+      ∙ ap₂ (λ (ss : List SentSample) (i : ℕ). let c : Content = slice_index_or (datagrams ss) i no_content in
+      Own n 0 c.time c.marker c.values c.bytes) only-is back
 
 eqb-same : (a : ℕ) → (a == a) ≡ true
 eqb-same a = grind (arith, nat_tests)
@@ -122,7 +156,7 @@ byte-there (b ∷ bs) some = refl
 -- a datagram of a plain stream that has repairs is repaired
 module _ (s : Sending) (n : ℕ) (o : Outgoing) (key : RepairKey) (plain : IsPlain s) (none : s.redundancy ≡ None)
     (has : s.types.repair ≡ Some key) (time : o.time < 2 ^ 32)
-    (values : Rattle.rtp_wire.specs.Carried.AreValues o.values) (some : 0 < length o.payload)
+    (values : AreValues o.values) (some : 0 < length o.payload)
     (fits : length (datagram_of s n o) + 2 ≤ s.limit) where
   abbrev d : List ℕ
   d = datagram_of s n o
@@ -160,11 +194,12 @@ module _ (s : Sending) (n : ℕ) (o : Outgoing) (key : RepairKey) (plain : IsPla
   pub is-made : is_made (Some (repair s d)) ≡ true
   is-made =
       ap (λ (k : Option RepairKey). is_made (Some (repair_by s k d)))
-      (ap (λ (r : Bool). if r then None else s.types.repair) (ap is_some none) ∙ has)
+      (ap (λ (b : Bool). let k : Option RepairKey = if b then None else s.types.repair in k)
+      (ap (λ (r : Option Redundancy). is_some r) none) ∙ has)
       ∙ ap (λ (q : Option ℕ). is_made (Some (repair_under s key q d))) own-len
       ∙ ap (λ (b : Bool). let made : Result (List ℕ) RepairError =
-      if b then Err Rattle.rtp_media_streams.specs.declared.errors.RepairError.TheVariants.LimitTooSmall
-      else Ok (Rattle.rtp_wire.specs.Repairs.repair_of key.pt s.repairs key.ssrc bare.header_len d) in
+      if b then Err LimitTooSmall
+      else Ok (repair_of key.pt s.repairs key.ssrc bare.header_len d) in
       is_made (Some made)) below
 
 -- orders of two datagrams
@@ -175,6 +210,9 @@ both-came (suc (suc y)) low high = absurd (omega arith)
 
 good-poll : (hold_back : ℕ) → IsGoodPoll 0 2 hold_back (1 ∷ 0 ∷ []) 1
 good-poll hold_back = record { begun = refl; held_back = inr both-came }
+
+at-least-one : (n : ℕ) → 2 ≤ n → 1 ≤ n
+at-least-one n two = omega (arith, two)
 
 abbrev two_turns : List Turn
 two_turns = turns.Arrive 0 ∷ turns.Arrive 1 ∷ Ask ∷ Ask ∷ Ask ∷ []
@@ -187,7 +225,7 @@ tame-two holding room = (
     near = omega arith;
     in_reach = λ y low far. absurd (omega arith);
   },
-  omega (arith, room),
+  at-least-one holding.held room,
   (
     record {
       from_first = omega arith;
@@ -202,3 +240,228 @@ tame-two holding room = (
     ),
   ),
 )
+
+-- no more is held than came
+held-more : (p : Packet) (ps : List Packet) → length (held_with p ps) ≤ length ps + 1
+held-more p [] = omega arith
+held-more p (q ∷ qs) = by (nat_cmp p.meta.seq_no q.meta.seq_no) (held-more p qs) where
+  by : (o : Ordering) → length (held_with p qs) ≤ length qs + 1
+      → length (match_ordering o (p ∷ q ∷ qs) (q ∷ qs) (q ∷ held_with p qs)) ≤ length (q ∷ qs) + 1
+  by Less ih = omega arith
+  by Equal ih = omega arith
+  by Greater ih = omega (arith, ih)
+
+taken-more : (t : Stream) (n : ℕ) (c : Content) → length (taken_by t n c).held ≤ length t.held + 1
+taken-more t n c = by (is_accepted t.window n) (is_done t.cutoff n) where
+  inside : (b : Bool) → length (if b then t.held
+      else limited t.holding.held (held_with (packet_of n c) t.held)) ≤ length t.held + 1
+  inside true = omega arith
+  inside false =
+      let more : length (held_with (packet_of n c) t.held) ≤ length t.held + 1 = held-more (packet_of n c) t.held in
+      let most : ℕ = length (held_with (packet_of n c) t.held) - t.holding.held in
+      omega (arith, more, length-drop most (held_with (packet_of n c) t.held))
+
+  by : (b d : Bool) → length (if b then record {
+    holding = t.holding;
+    window = Some (recorded_in t.window n);
+    held = (if d then t.held else limited t.holding.held (held_with (packet_of n c) t.held));
+    cutoff = t.cutoff;
+    fragment = t.fragment;
+  } else t).held ≤ length t.held + 1
+  by true d = inside d
+  by false d = omega arith
+
+-- two arrivals and three polls end by None
+ends-silent : (format : Format) (holding : Holding) (a b : ℕ) (c d : Content)
+    → EndsSilent (heard format (fresh holding)
+    (hearing.Comes a c ∷ hearing.Comes b d ∷ hearing.Poll ∷ hearing.Poll ∷ hearing.Poll ∷ []))
+ends-silent format holding a b c d =
+    let t : Stream = taken_by (fresh holding) (number_at (fresh holding) a) c in
+    let u : Stream = taken_by t (number_at t b) d in
+    let none : length (fresh holding).held ≡ 0 = refl in
+    polls-end format 2 u
+    (omega (arith, none, taken-more (fresh holding) (number_at (fresh holding) a) c, taken-more t (number_at t b) d))
+
+same-time : (t at : ℕ) → t < 2 ^ 32 → at < 2 ^ 32 → shifted (shift_to t at) t ≡ at
+same-time t at small fits = omega (arith, small, fits)
+
+module _ (law : KeepCodecLawInForms) (reached : FirstIsReached) (r : Room) (is : IsOpusRoom r) where
+  abbrev s : Sending
+  s = stream_in r
+
+  abbrev one : Sending
+  one = sender_over r.one
+
+  abbrev other : Sending
+  other = sender_over r.other
+
+  abbrev vs : ExtensionValues → ExtensionValues
+  vs = values_by s r.own
+
+  abbrev parts : List Part
+  parts = parts_in r
+
+  abbrev one_shift : ℕ
+  one_shift = (one_of r).shift
+
+  abbrev other_shift : ℕ
+  other_shift = (other_of r).shift
+
+  one-is : sent_samples one (r.one_sample ∷ []) ≡ only one r.one_sample
+  one-is = only-is law reached r.one r.one_sample is.one is.one_fits
+
+  other-is : sent_samples other (r.other_sample ∷ []) ≡ only other r.other_sample
+  other-is = only-is law reached r.other r.other_sample is.other is.other_fits
+
+  one-time : shifted one_shift (time_over r.one r.one_sample) ≡ time_over r.one r.one_sample
+  one-time = same-time (time_over r.one r.one_sample) (time_over r.one r.one_sample) (omega arith) (omega arith)
+
+  other-time : shifted other_shift (time_over r.other r.other_sample) ≡ r.at
+  other-time = same-time (time_over r.other r.other_sample) r.at (omega arith) is.time
+
+  one-count : count_of one (r.one_sample ∷ []) ≡ 1
+  one-count = counted law reached r.one r.one_sample is.one is.one_fits
+
+  other-count : count_of other (r.other_sample ∷ []) ≡ 1
+  other-count = counted law reached r.other r.other_sample is.other is.other_fits
+
+  pub two : forward.count_of parts ≡ 2
+  two = omega (arith, one-count, other-count)
+
+  -- what is asked of a subscriber
+  abbrev pub opened : EndState
+  opened = after_open_receiver r.onward.receiver r.onward.mid r.onward.ssrc r.onward.pt r.onward.holding
+
+  abbrev pub rx : ℕ
+  rx = length r.onward.receiver.streams
+
+  pub onward-hears : Hears opened rx r.onward.holding s []
+  onward-hears = exchanged.hears law reached r.onward.answer r.onward.sender r.onward.receiver r.onward.mid r.onward.ssrc
+      r.onward.pt r.onward.params [] is.onward.opened r.onward.holding
+
+  s-opus : s.row.codec ≡ Opus
+  s-opus = ap (λ (row : RowFormat). row.codec)
+      (exchanged.plain law reached r.onward.answer r.onward.sender r.onward.receiver r.onward.mid r.onward.ssrc
+      r.onward.pt r.onward.params [] is.onward.opened).row ∙ is.onward.opus
+
+  same-format : (h : Hop) (x : Sample) → CarriesOpus h → FitsPacket h x
+      → format_of (sender_over h).row ≡ format_of s.row
+  same-format h x opus fits =
+      opus-format (sender_over h).row (is-opus law reached h x opus fits) ∙ sym (opus-format s.row s-opus)
+
+  pub published : ArePublished (format_of s.row) (publications r)
+  published =
+      let a = heard-one law reached r.one r.one_sample is.one is.one_fits in
+      let b = heard-one law reached r.other r.other_sample is.other is.other_fits in (
+        a.sender,
+        a.sound,
+        same-format r.one r.one_sample is.one is.one_fits,
+        (b.sender, b.sound, same-format r.other r.other_sample is.other is.other_fits, tt),
+      )
+
+  -- the run
+  pub from-them : AreFrom (senders_in r) parts
+  from-them = ((λ x of. refl), ((λ x of. refl), tt))
+
+  pub runs : IsRun (senders_in r) 0 [] (nothing_from 0) parts (steps_in r)
+  runs =
+      let one_zero : one.next ≡ 0 = from-zero law reached r.one r.one_sample is.one is.one_fits in
+      let other_zero : other.next ≡ 0 = from-zero law reached r.other r.other_sample is.other is.other_fits in
+      inr (
+        refl,
+        record { source_is = refl; first_is = one_zero; shift_is = refl },
+        inl (
+          (λ same from. omega (arith, one_zero, one-count)),
+          inr (
+            omega (arith, one-count),
+            record { source_is = refl; first_is = other_zero; shift_is = refl },
+            ((λ same from. omega (arith, other_zero, other-count)), tt),
+          ),
+        ),
+      )
+
+  -- what leaves
+  pub datagrams-are : (relay_in r).datagrams ≡ datagram_of s 0 (one_out r) ∷ datagram_of s 1 (other_out r) ∷ []
+  datagrams-are =
+      ap₂ (λ (xs ys : List SentSample). virtual_datagrams s r.own 0
+      (record { source = 1; first = one.next; shift = one_shift; samples = xs }
+      ∷ record { source = 2; first = other.next; shift = other_shift; samples = ys } ∷ [])) one-is other-is
+      ∙ ap₂ (λ (t u : ℕ). datagram_of s 0 (record (one_out r) { time = t })
+      ∷ datagram_of s 1 (record (other_out r) { time = u }) ∷ []) one-time other-time
+
+  pub left-are : (left : List (List ℕ))
+      → left ≡ numbered_datagrams 0 (virtual_datagrams s r.own 0 parts)
+      (numbers_in (senders_in r) (nothing_from 0) (steps_in r))
+      → left ≡ datagram_of s 0 (one_out r) ∷ datagram_of s 1 (other_out r) ∷ []
+  left-are left bytes =
+      bytes ∙ ap (λ (ds : List (List ℕ)). slice_index_or ds 0 [] ∷ slice_index_or ds 1 [] ∷ []) datagrams-are
+
+  -- the second one may be repaired
+  plain : IsPlain s
+  plain = record {
+    wire_type = subst (IsTypedBy s.types s.wire_type) is.plain
+        onward-hears.sender.typed;
+    payload_type = onward-hears.sender.payload_type;
+    ssrc = onward-hears.sender.ssrc;
+  }
+
+  made : is_repaired (relay_in r) 1 ≡ true
+  made =
+      ap (λ (ds : List (List ℕ)). is_made (option_map (repair s) (slice_get ds 1))) datagrams-are
+      ∙ is-made s 1 (other_out r) is.key plain is.plain is.repairs is.time
+      (is.keeps (carried other r.other_sample.values)
+      (arriving-are-values other.map r.other_sample.values is.other_fits.values))
+      is.other_fits.some is.limit
+
+  -- the schedule is tame
+  abbrev samples : List SentSample
+  samples = relayed vs parts
+
+  sizes-are : frame_sizes (format_of s.row) samples ≡ 1 ∷ 1 ∷ []
+  sizes-are =
+      ap₂ (λ (f : Format) (ss : List SentSample). frame_sizes f ss) (opus-format s.row s-opus)
+      (ap₂ (λ (xs ys : List SentSample). relayed vs
+      (record { source = 1; first = one.next; shift = one_shift; samples = xs }
+      ∷ record { source = 2; first = other.next; shift = other_shift; samples = ys } ∷ [])) one-is other-is)
+
+  abbrev turns_by : ℕ → Bool → List Turn
+  turns_by n b = turns_of 0 n (λ k. b) one_repair
+
+  turns-are : turns_of 0 (forward.count_of parts) (is_repaired (relay_in r)) one_repair ≡ two_turns
+  turns-are =
+      ap (λ (n : ℕ). turns_of 0 n (is_repaired (relay_in r)) one_repair) two
+      ∙ ap (λ (b : Bool). turns.Arrive 0 ∷ (if b then turns.Arrive 1 ∷ Ask ∷ Ask ∷ Ask ∷ [] else Ask ∷ Ask ∷ Ask ∷ []))
+      made
+
+  pub is-tame : IsTame 0 (forward.count_of parts) r.onward.holding
+      (first_size (frame_sizes (format_of s.row) samples)) [] 0 (frame_sizes (format_of s.row) samples)
+      (turns_of 0 (forward.count_of parts) (is_repaired (relay_in r)) one_repair)
+  is-tame =
+      subst (λ (zs : List ℕ). IsTame 0 (forward.count_of parts) r.onward.holding (first_size zs) [] 0 zs
+      (turns_of 0 (forward.count_of parts) (is_repaired (relay_in r)) one_repair)) (sym sizes-are)
+      (subst (λ (ts : List Turn). IsTame 0 (forward.count_of parts) r.onward.holding 1 [] 0 (1 ∷ 1 ∷ []) ts)
+      (sym turns-are)
+      (subst (λ (n : ℕ). IsTame 0 n r.onward.holding 1 [] 0 (1 ∷ 1 ∷ []) two_turns) (sym two)
+      (tame-two r.onward.holding is.held)))
+
+  pub is-silent : (hears : HearsRelay opened rx r.onward.holding s r.own 0 parts)
+      → EndsSilent (poll_answers (played (relay_in r) rx opened one_repair))
+  is-silent hears =
+      let sender : ℕ → Content = numbered 0 (datagrams samples) in
+      subst EndsSilent
+      (sym (run-is opened rx r.onward.holding s r.own 0 parts hears one_repair tt
+      ∙ ap (λ (ts : List Turn). heard (format_of s.row) (fresh r.onward.holding) (map (event_of sender) ts)) turns-are))
+      (ends-silent (format_of s.row) r.onward.holding 0 1 (sender 0) (sender 1))
+
+  -- the units
+  pub units-are : units_on vs (publications r) ≡ units_in r
+  units-are =
+      ap₂ (λ (xs ys : List SentSample).
+      map (unit_on vs one_shift) (map whole_unit (canonical_units one.next xs))
+      ++ (map (unit_on vs other_shift) (map whole_unit (canonical_units other.next ys)) ++ [])) one-is other-is
+      ∙ ap₂ (λ (xs ys : List ℕ).
+      timed (shifted one_shift (time_over r.one r.one_sample)) (vs (carried one r.one_sample.values)) xs
+      ∷ timed (shifted other_shift (time_over r.other r.other_sample)) (vs (carried other r.other_sample.values)) ys
+      ∷ []) (append-nil r.one_sample.bytes) (append-nil r.other_sample.bytes)
+      ∙ ap₂ (λ (t u : ℕ). timed t (vs (carried one r.one_sample.values)) r.one_sample.bytes
+      ∷ timed u (vs (carried other r.other_sample.values)) r.other_sample.bytes ∷ []) one-time other-time

@@ -1,5 +1,5 @@
 -- Samples of publishers that are sent on.
-use Rattle.std.proofs.Common.{◌≡◌, ℕ, ◌+◌, ◌%◌, ◌^◌, ◌<◌, ◌≤◌, refl, sym, ◌∙◌, ap, ap₂, subst, arith, List, [], ◌∷◌}
+use Rattle.std.proofs.Common.{◌≡◌, ℕ, ◌+◌, ◌<◌, refl, sym, ◌∙◌, ap, ap₂, subst, arith, List, [], ◌∷◌}
 use Rattle.std.proofs.Common.{◌++◌, length, map}
 use Rattle.std.specs.List.{flat_map}
 use Rattle.std.proofs.lemmas.Grind.{flat_map-append}
@@ -18,7 +18,7 @@ use Rattle.rtp_media_ends.proofs.Datagrams.{AreSendable, AreTheirs, contents_of}
 use Rattle.rtp_media_ends.proofs.Exact.{all-theirs, sent-as-read}
 use Rattle.rtp_media_runs.proofs.Values.{arriving-are-values}
 use Rattle.rtp_media_forward.specs.Forwarding.{shifted}
-use Rattle.rtp_media_forward.specs.Relayed.{AreRead, Part, relayed, relayed_content, relayed_sample, relayed_samples}
+use Rattle.rtp_media_forward.specs.Relayed.{AreRead, relayed, relayed_content, relayed_sample, relayed_samples}
 use Rattle.rtp_media_forward.proofs.Relayed.{brought}
 use Rattle.rtp_media_forward_runs.specs.ForwardedRuns.{AreWritable}
 use Rattle.rtp_media_forward_runs.specs.Published.{ArePublished, KeepsValues, Publication, part_of, parts_of, unit_on}

@@ -1,11 +1,13 @@
 //! Laws of whole runs over two hops whose middle forwards packets; no code.
 #![tactic(auto)]
 
+mod opus;
 mod over_ends;
 mod over_hops;
 mod over_steps;
 mod published;
 
+pub use opus::opus_over_forwarder;
 pub use over_ends::forwarded_runs_law;
 pub use over_hops::{first_hop_law, hops_laws};
 pub use over_steps::steps_over_hops_law;

@@ -242,5 +242,5 @@ pub fn run_within<R: Read, W: Write, A: Respond>(
         }
         status = take_piece(alloc, &piece[..count], status, &mut line, responder, writer)?;
     }
-    Err(RunFault::Read)
+    Err(RunFault::TooManyReads)
 }

@@ -42,9 +42,12 @@ impl Status {
 /// Why a run ended before the end of its input was answered.
 #[derive(Clone, Copy, Debug, Drop, Error, PartialEq, Eq)]
 pub enum RunFault {
-    /// A read failed, or the input doesn't end within 16,777,216 reads.
+    /// A read failed.
     #[error("read fault")]
     Read,
+    /// The input doesn't end within 16,777,216 reads.
+    #[error("too many reads")]
+    TooManyReads,
     /// A write failed, or took no bytes.
     #[error("write fault")]
     Write,
