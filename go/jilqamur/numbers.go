@@ -39,9 +39,9 @@ func (e *End) PassTo(stream int, number uint64) error {
 }
 
 // PassEmpty tells a receiving stream that a number carries nothing for it, as one of padding alone (RFC 3550, section
-// 5.1), or of another payload type of its SSRC. It reports whether the number was the next after the last that is passed,
-// and is now passed, so that no frame waits for it; if not, it may be told again after the next unit. It returns
-// [ErrNoStream].
+// 5.1), or of another payload type of its SSRC. It reports whether the number was the next after the last that is
+// passed, and is now passed, so that no frame waits for it; if not, it may be told again after the next unit. It
+// returns [ErrNoStream].
 func (e *End) PassEmpty(stream int, number uint64) (bool, error) {
 	err := done(C.jilqamur_end_pass_empty(&e.handle, C.size_t(stream), C.uint64_t(number)))
 	if err == ErrNothing {
@@ -50,10 +50,10 @@ func (e *End) PassEmpty(stream int, number uint64) (bool, error) {
 	return err == nil, err
 }
 
-// KeepWithin gives memory of a receiving stream back: of the packets that wait those with the highest numbers stay, whose
-// payloads have at most so many bytes together, and the numbers below them are passed; a fragment that is open between
-// units is given up if any packet went, or if it has more bytes. A call each time so many bytes came in keeps the stream
-// within twice as many, whatever a peer sends. It returns [ErrNoStream].
+// KeepWithin gives memory of a receiving stream back: of the packets that wait those with the highest numbers stay,
+// whose payloads have at most so many bytes together, and the numbers below them are passed; a fragment that is open
+// between units is given up if any packet went, or if it has more bytes. A call each time so many bytes came in keeps
+// the stream within twice as many, whatever a peer sends. It returns [ErrNoStream].
 func (e *End) KeepWithin(stream int, bytes uint) error {
 	return done(C.jilqamur_end_keep_within(&e.handle, C.size_t(stream), C.size_t(bytes)))
 }

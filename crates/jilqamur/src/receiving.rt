@@ -141,9 +141,9 @@ fn open_unsignalled_with(
     }
 }
 
-/// Opens a receiving stream as `jilqamur_end_open_receiver`, in a section whose sender names this SSRC or no SSRC at all,
-/// as one whose simulcast streams `a=rid` alone tells apart (RFC 8853 6.1): the SSRC is that of a datagram that came and
-/// was `FOREIGN`. `SSRC_NOT_NAMED` if the section names SSRCs, and not this one.
+/// Opens a receiving stream as `jilqamur_end_open_receiver`, in a section whose sender names this SSRC or no SSRC at
+/// all, as one whose simulcast streams `a=rid` alone tells apart (RFC 8853 6.1): the SSRC is that of a datagram that
+/// came and was `FOREIGN`. `SSRC_NOT_NAMED` if the section names SSRCs, and not this one.
 #[unsafe(no_mangle)]
 pub extern "C" fn jilqamur_end_open_unsignalled(
     end: &mut EndHandle,

@@ -98,8 +98,8 @@ impl End {
     }
 
     /// Opens a receiving stream as [`End::open_receiver`], in a section whose sender names this SSRC or no SSRC at all,
-    /// as one whose simulcast streams `a=rid` alone tells apart (RFC 8853 6.1): the SSRC is that of a datagram that came,
-    /// which `receive` said to be foreign, and whose header extensions say the section and the stream.
+    /// as one whose simulcast streams `a=rid` alone tells apart (RFC 8853 6.1): the SSRC is that of a datagram which
+    /// `receive` said to be foreign, and whose header extensions say the section and the stream.
     ///
     /// # Conditions
     /// `held` is 4,096 to 16,384, as `may_hold` says.

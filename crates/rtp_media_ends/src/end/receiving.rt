@@ -96,8 +96,8 @@ impl End {
     }
 
     /// Gives memory of a receiving stream back: of the packets that wait those with the highest numbers stay, whose
-    /// payloads have at most `bytes` bytes together, and the stream is done with the numbers below them. A fragment that
-    /// is open between units is given up if any packet went, or if it has more bytes.
+    /// payloads have at most `bytes` bytes together, and the stream is done with the numbers below them. A fragment
+    /// that is open between units is given up if any packet went, or if it has more bytes.
     ///
     /// A call each time so many bytes came in keeps the stream within twice as many, whatever a peer sends; it looks at
     /// each packet that waits.

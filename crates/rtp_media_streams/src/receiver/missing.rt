@@ -87,8 +87,8 @@ impl ReceivingStream {
     }
 
     /// Gives memory back: of the packets that wait those with the highest numbers stay, whose payloads have at most
-    /// `bytes` bytes together, and it is done with the numbers below them; a fragment that is open between units is given
-    /// up if any packet went, or if it has more bytes. It looks at each packet that waits, at most `held`.
+    /// `bytes` bytes together, and it is done with the numbers below them; a fragment that is open between units is
+    /// given up if any packet went, or if it has more bytes. It looks at each packet that waits, at most `held`.
     pub fn keep_within(&mut self, bytes: usize)
         ensures after { self.new ≡ with_stream self.old (kept_within bytes self.old.stream) }
         ensures packets { bytes_of self.new.stream.held ≤ bytes }
