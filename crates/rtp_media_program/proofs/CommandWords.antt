@@ -12,7 +12,7 @@ use Rattle.rtp_media_program.specs.declared.command.Ask.{Ask}
 use Rattle.rtp_media_program.specs.declared.command.Ask.TheVariants.{Close, Missing, Next}
 use Rattle.rtp_media_program.specs.declared.command.AskCommand.{AskCommand}
 use Rattle.rtp_media_program.specs.declared.command.Bound.{Bound}
-use Rattle.rtp_media_program.specs.declared.command.Bound.TheVariants.{Pass, Skip}
+use Rattle.rtp_media_program.specs.declared.command.Bound.TheVariants.{Empty, Keep, Pass, Skip}
 use Rattle.rtp_media_program.specs.declared.command.BoundCommand.{BoundCommand}
 use Rattle.rtp_media_program.specs.Words.{letter_of, text_of, hex_of, dash_or, numbers_of, number_below, behind}
 use Rattle.rtp_media_program.specs.Words.{held_value, mid_value, ◌>>=◌}
@@ -253,7 +253,9 @@ stream_says verb words c h =
     (dispatch (bytes_eq verb (codes "close")) _ _ _ _ (λ v. ask_says Close verb words c (same verb _ v))
     (dispatch (bytes_eq verb (codes "skip")) _ _ _ _ (λ v. bound_says Skip verb words c (same verb _ v))
     (dispatch (bytes_eq verb (codes "pass")) _ _ _ _ (λ v. bound_says Pass verb words c (same verb _ v))
-    (exchange_says verb words c))))) h
+    (dispatch (bytes_eq verb (codes "empty")) _ _ _ _ (λ v. bound_says Empty verb words c (same verb _ v))
+    (dispatch (bytes_eq verb (codes "keep")) _ _ _ _ (λ v. bound_says Keep verb words c (same verb _ v))
+    (exchange_says verb words c))))))) h
 
 pub says_what_is_read : (words : List (List ℕ)) (c : Command) → command_of words ≡ Some c → Says words c
 says_what_is_read [] c h = cc h
@@ -344,6 +346,10 @@ read_bounded : (bound : BoundCommand) (words : List (List ℕ)) (a : AreBoundWor
 read_bounded bound words a Skip e =
     ap (λ (q : Bound). bound_of q (a.e ∷ a.stream ∷ a.number ∷ [])) e ∙ read_bound bound words a
 read_bounded bound words a Pass e =
+    ap (λ (q : Bound). bound_of q (a.e ∷ a.stream ∷ a.number ∷ [])) e ∙ read_bound bound words a
+read_bounded bound words a Empty e =
+    ap (λ (q : Bound). bound_of q (a.e ∷ a.stream ∷ a.number ∷ [])) e ∙ read_bound bound words a
+read_bounded bound words a Keep e =
     ap (λ (q : Bound). bound_of q (a.e ∷ a.stream ∷ a.number ∷ [])) e ∙ read_bound bound words a
 
 abbrev Reads : Command → List (List ℕ) → Type 0

@@ -9,7 +9,7 @@ use Rattle.rtp_media_program.specs.declared.command.Command.TheVariants.{AskStre
 use Rattle.rtp_media_program.specs.declared.command.Ask.{Ask}
 use Rattle.rtp_media_program.specs.declared.command.Ask.TheVariants.{Close, Missing, Next}
 use Rattle.rtp_media_program.specs.declared.command.Bound.{Bound}
-use Rattle.rtp_media_program.specs.declared.command.Bound.TheVariants.{Pass, Skip}
+use Rattle.rtp_media_program.specs.declared.command.Bound.TheVariants.{Empty, Keep, Pass, Skip}
 use Rattle.std.specs.Option.{option_map}
 use Rattle.rtp_media_program.specs.declared.words.Letter.{Letter}
 use Rattle.rtp_media_program.specs.ExchangeLines.{row_of, ext_of, end_of, offer_of, answer_of, accept_of, withdraw_of}
@@ -148,6 +148,8 @@ stream_command_of verb words =
     else if bytes_eq verb (codes "close") then ask_of Close words
     else if bytes_eq verb (codes "skip") then bound_of Skip words
     else if bytes_eq verb (codes "pass") then bound_of Pass words
+    else if bytes_eq verb (codes "empty") then bound_of Empty words
+    else if bytes_eq verb (codes "keep") then bound_of Keep words
     else exchange_command_of verb words
 
 -- A command by its first word.

@@ -14,7 +14,7 @@ use Rattle.rtp_media_program.specs.declared.command.Ask.{Ask}
 use Rattle.rtp_media_program.specs.declared.command.Ask.TheVariants.{Close, Missing, Next}
 use Rattle.rtp_media_program.specs.declared.command.AskCommand.{AskCommand}
 use Rattle.rtp_media_program.specs.declared.command.Bound.{Bound}
-use Rattle.rtp_media_program.specs.declared.command.Bound.TheVariants.{Pass, Skip}
+use Rattle.rtp_media_program.specs.declared.command.Bound.TheVariants.{Empty, Keep, Pass, Skip}
 use Rattle.rtp_media_program.specs.declared.command.BoundCommand.{BoundCommand}
 use Rattle.rtp_media_program.specs.declared.command.Command.TheVariants.{AskStream, BoundStream}
 use Rattle.rtp_media_program.specs.declared.exchange.RowCommand.{RowCommand}
@@ -134,8 +134,10 @@ pub record AreAskWords (words : List (List ℕ)) (ask : AskCommand) : Type 0 whe
 abbrev pub bound_word : Bound → List ℕ
 bound_word Skip = codes "skip"
 bound_word Pass = codes "pass"
+bound_word Empty = codes "empty"
+bound_word Keep = codes "keep"
 
--- skip E N NUMBER, pass E N NUMBER
+-- skip E N NUMBER, pass E N NUMBER, empty E N NUMBER, keep E N NUMBER
 pub record AreBoundWords (words : List (List ℕ)) (bound : BoundCommand) : Type 0 where
   pub e : List ℕ
   pub stream : List ℕ

@@ -11,6 +11,7 @@ use Rattle.payload_core_buffer.specs.Buffered.{holding_of, may_hold}
 use Rattle.rtp_media_streams.specs.Polls.{PollResult, poll_result}
 use Rattle.rtp_media_streams.specs.Sending.{sent_datagrams, after_sample, refusal_of_sample, skipped_to}
 use Rattle.rtp_media_streams.specs.Missing.{missing}
+use Rattle.rtp_media_streams.specs.Limits.{kept_within, passed_empty}
 use Rattle.rtp_media_streams.specs.Passing.{passed_to}
 use Rattle.rtp_media_streams.specs.Receiving.{polled_receiver, with_stream}
 use Rattle.rtp_media_streams.specs.Repairing.{repair, with_repair}
@@ -33,7 +34,7 @@ use Rattle.rtp_media_program.specs.declared.command.Command.TheVariants.{AskStre
 use Rattle.rtp_media_program.specs.declared.command.Ask.{Ask}
 use Rattle.rtp_media_program.specs.declared.command.Ask.TheVariants.{Close, Missing, Next}
 use Rattle.rtp_media_program.specs.declared.command.Bound.{Bound}
-use Rattle.rtp_media_program.specs.declared.command.Bound.TheVariants.{Pass, Skip}
+use Rattle.rtp_media_program.specs.declared.command.Bound.TheVariants.{Empty, Keep, Pass, Skip}
 use Rattle.rtp_media_program.specs.declared.command.SendCommand.{SendCommand}
 use Rattle.rtp_media_program.specs.declared.command.OpenCommand.{OpenCommand}
 use Rattle.rtp_media_program.specs.declared.command.SampleCommand.{SampleCommand}
@@ -165,7 +166,7 @@ ask_at Missing e n =
 ask_at Close e n =
     if is_sender_at e n || is_receiver_at e n then prints (without_stream e n) reply.Done else prints e reply.ErrorLine
 
--- skip E N NUMBER, pass E N NUMBER
+-- skip E N NUMBER, pass E N NUMBER, empty E N NUMBER, keep E N NUMBER
 abbrev pub bound_at : Bound → EndState → ℕ → ℕ → EndStep
 bound_at Skip e n number =
     if is_sender_at e n then prints (with_sender e n (skipped_to (sender_at e n) number)) reply.Done
@@ -173,6 +174,14 @@ bound_at Skip e n number =
 bound_at Pass e n number =
     if is_receiver_at e n then
     prints (with_receiver e n (with_stream (receiver_at e n) (passed_to number (receiver_at e n).stream))) reply.Done
+    else prints e reply.ErrorLine
+bound_at Empty e n number =
+    if is_receiver_at e n then
+    prints (with_receiver e n (with_stream (receiver_at e n) (passed_empty number (receiver_at e n).stream))) reply.Done
+    else prints e reply.ErrorLine
+bound_at Keep e n bytes =
+    if is_receiver_at e n then
+    prints (with_receiver e n (with_stream (receiver_at e n) (kept_within bytes (receiver_at e n).stream))) reply.Done
     else prints e reply.ErrorLine
 
 -- What a stream command does to its end, and what it prints. The commands that make ends or exchange texts have their

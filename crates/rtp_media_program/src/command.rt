@@ -120,9 +120,13 @@ pub enum Bound {
     Skip,
     /// A receiving stream is done with the numbers up to it.
     Pass,
+    /// A receiving stream is told that this number carries nothing.
+    Empty,
+    /// The payloads of the packets that wait in a receiving stream have at most so many bytes.
+    Keep,
 }
 
-/// `skip E N NUMBER`, `pass E N NUMBER`: set a bound to a stream's numbers.
+/// `skip E N NUMBER`, `pass E N NUMBER`, `empty E N NUMBER`, `keep E N NUMBER`: set a bound to a stream.
 #[derive(Clone, Copy, Debug, PartialEq, Eq)]
 pub struct BoundCommand {
     /// The end that has the stream.

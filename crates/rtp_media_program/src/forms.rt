@@ -25,6 +25,8 @@ next E N
 skip E N NUMBER
 missing E N
 pass E N NUMBER
+empty E N NUMBER
+keep E N NUMBER
 close E N
 queue TIME HEX
 play TX RX ITEM..

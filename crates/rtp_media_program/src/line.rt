@@ -83,6 +83,8 @@ fn stream_command_of(alloc: Global, verb: &str, rest: WordsLeft<'_>) -> Result<C
         "close" => ask_of(Ask::Close, rest),
         "skip" => bound_of(Bound::Skip, rest),
         "pass" => bound_of(Bound::Pass, rest),
+        "empty" => bound_of(Bound::Empty, rest),
+        "keep" => bound_of(Bound::Keep, rest),
         _ => exchange_command_of(alloc, verb, rest),
     }
 }

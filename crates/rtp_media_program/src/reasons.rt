@@ -152,7 +152,9 @@ fn unmet_streams<'a>(
             "b",
         )),
         "sample" | "repair" | "next" | "skip" => unopened(known.end(first), true, second, first),
-        "poll" | "missing" | "pass" => unopened(known.end(first), false, second, first),
+        "poll" | "missing" | "pass" | "empty" | "keep" => {
+            unopened(known.end(first), false, second, first)
+        }
         _ => None,
     }
 }

@@ -73,6 +73,12 @@ pub fn bound(alloc: Global, end: &mut End, command: BoundCommand) -> Result<Vec<
     match command.bound {
         Bound::Skip if end.is_sender(stream) => end.skip_to(stream, command.number),
         Bound::Pass if end.is_receiver(stream) => end.pass_to(stream, SeqNo::from(command.number)),
+        Bound::Empty if end.is_receiver(stream) => {
+            end.pass_empty(stream, SeqNo::from(command.number));
+        }
+        Bound::Keep if end.is_receiver(stream) => {
+            end.keep_within(stream, command.number as usize);
+        }
         _ => return one(alloc, Reply::ErrorLine),
     }
     one(alloc, Reply::Done)
