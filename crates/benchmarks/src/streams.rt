@@ -1,8 +1,7 @@
 //! How fast streams are: each codec's sample into datagrams, and its datagrams received with a poll
-//! after each; receiving while packets wait for a missing one; and packets sent on. Counts go to standard output,
+//! after each; and receiving while packets wait for a missing one. Counts go to standard output,
 //! rates to standard error: those of the fastest of many time slices, which other load doesn't
 //! disturb.
-mod forwarding;
 mod line;
 mod receiving;
 mod sending;
@@ -72,11 +71,6 @@ pub(crate) fn measure_all(rt: &HostRuntime) -> io::Result<()> {
     let opus = audio("opus", Codec::Opus, false, None, OPUS);
     for waiting in [0, 15, 255, 4_095] {
         receiving::measure_waiting(rt, &opus, waiting)?;
-    }
-    let packet = sample_of(rt.alloc(), b"", 1_200)?;
-    let line = video("VP8", Codec::Vp8, &packet);
-    for (count, pieces) in [(1, 1), (1, 64), (10, 1), (100, 1), (1_000, 1), (10_000, 1)] {
-        forwarding::measure(rt, &line, count, pieces)?;
     }
     Ok(())
 }

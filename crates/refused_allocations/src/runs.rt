@@ -109,5 +109,5 @@ fn ends_by_reads(alloc: Global, byte: u8) -> bool {
         fails_in: NEVER,
     };
     let result = run(alloc, &mut source, &mut sink);
-    result == Err(RunFault::TooManyReads) && sink.taken.len() <= 16
+    result == Err(RunFault::Read) && sink.taken.len() <= 16
 }

@@ -1,7 +1,9 @@
 pub mod FirstHop
 pub mod ForwardedRuns
 pub mod Hops
+pub mod OneRepair
 pub mod OpusForwarded
 pub mod PublishedUnits
 pub mod Steps
+pub mod TwoDatagrams
 pub mod Virtual

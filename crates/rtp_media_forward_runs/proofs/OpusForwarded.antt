@@ -1,59 +1,36 @@
 -- Two publishers of Opus, a forwarder and a subscriber.
-use Rattle.std.proofs.Common.{◌≡◌, ℕ, zero, suc, ◌+◌, ◌-◌, ◌^◌, ◌<◌, ◌≤◌, refl, sym, ◌∙◌, ap, ap₂, subst, arith, inl}
-use Rattle.std.proofs.Common.{inr, Bool, true, false, ◌&&◌, List, [], ◌∷◌, ◌++◌, append-nil, length, map, true≢false}
-use Rattle.std.proofs.lemmas.Bool.Decides.{nat_tests}
-use Rattle.std.proofs.lemmas.List.{length-drop}
-use Rattle.std.specs.Prelude.{Option, Some, None, Result, Ok, Err, if◌then◌else◌, is_some, nat_lt, ◌==◌, slice_get}
+use Rattle.std.proofs.Common.{◌≡◌, ℕ, ◌-◌, ◌^◌, ◌<◌, ◌≤◌, refl, sym, ◌∙◌, ap, ap₂, subst, arith, inl}
+use Rattle.std.proofs.Common.{inr, Bool, true, false, List, [], ◌∷◌, ◌++◌, append-nil, length, map}
+use Rattle.std.specs.Prelude.{Some, if◌then◌else◌, slice_get}
 use Rattle.std.specs.Prelude.{slice_index_or}
 use Rattle.std.specs.Option.{option_map}
-use Rattle.std.specs.Ordering.{match_ordering, nat_cmp}
-use Rattle.std.specs.declared.cmp.Ordering.{Ordering}
-use Rattle.std.specs.declared.cmp.Ordering.TheVariants.{Equal, Greater, Less}
 use Rattle.h26x_payload.specs.Codings as codings
 use Rattle.h26x_payload.specs.Codings.{forms_for}
 use Rattle.h26x_payload.specs.Dispatch.{FirstIsReached, KeepCodecLawInForms}
 use Rattle.media_types.specs.declared.codec.Codec.{Codec}
 use Rattle.media_types.specs.declared.codec.Codec.TheVariants.{Opus}
 use Rattle.payload_core_base.specs.Format.{Format}
-use Rattle.payload_core_base.specs.Outgoing.{Outgoing}
 use Rattle.payload_core_base.specs.Packing.{marked}
 use Rattle.payload_core_base.specs.Stateless.{unit_of_piece}
-use Rattle.payload_core_audio.specs.RedHistory.{Redundancy}
 use Rattle.payload_core_audio.specs.Plain.{pieces_packing, plain_format}
-use Rattle.payload_core_buffer.specs.Buffered.{Holding, held_with, is_done, limited}
-use Rattle.payload_core_buffer.specs.Packets.{Packet}
-use Rattle.rtp_wire.specs.Carried.{AreValues}
-use Rattle.rtp_wire.specs.Replay.{is_accepted, recorded_in}
-use Rattle.rtp_wire.specs.Repairs.{repair_of}
-use Rattle.rtp_wire.specs.Header.{header_in, layout_of, payload_in, IsWritable}
-use Rattle.rtp_wire.specs.Header as header
-use Rattle.rtp_wire.specs.Maps.{empty_map}
-use Rattle.rtp_wire.specs.declared.header.RtpHeader.{RtpHeader}
 use Rattle.rtp_wire.specs.declared.values.ExtensionValues.{ExtensionValues}
-use Rattle.rtp_wire.proofs.HeaderLaws.{header_in-layout, payload_in-spelled, IsLayout-of}
 use Rattle.rtp_media_schedules.specs.Hearing as hearing
 use Rattle.rtp_media_schedules.specs.Hearing.{Content, EndsSilent, Stream, content_of, fresh, heard, number_at, packet_of}
 use Rattle.rtp_media_schedules.specs.Hearing.{taken_by}
-use Rattle.rtp_media_schedules.specs.Orders.{IsGoodPoll, IsTame, first_size}
+use Rattle.rtp_media_schedules.specs.Orders.{IsTame, first_size}
 use Rattle.rtp_media_schedules.specs.Samples.{SentSample, canonical_units, datagrams, frame_sizes, sent_by}
 use Rattle.rtp_media_schedules.specs.Samples.{whole_unit}
 use Rattle.rtp_media_schedules.specs.SentSamples.{timed}
 use Rattle.rtp_media_schedules.specs.Sending.{no_content, numbered}
 use Rattle.rtp_media_schedules.specs.Turns as turns
 use Rattle.rtp_media_schedules.specs.Turns.{AllCame, Ask, Turn, event_of}
-use Rattle.rtp_media_schedules.proofs.Polls.{polls-end}
 use Rattle.rtp_media_stream_table.specs.Arrivals.{Own, arrival_at}
 use Rattle.rtp_media_streams.specs.Receiving.{Receiving, opened_receiver, with_stream}
-use Rattle.rtp_media_streams.specs.Repairing.{has_byte, is_plainly_own, own_header_len, repair, repair_by}
-use Rattle.rtp_media_streams.specs.Repairing.{repair_under}
+use Rattle.rtp_media_streams.specs.Repairing.{repair}
 use Rattle.rtp_media_streams.specs.Rows.{format_of, settings_in}
-use Rattle.rtp_media_streams.specs.Sending.{IsTypedBy, Sample, Sending, carried, datagram_of, datagrams_of, header_of}
+use Rattle.rtp_media_streams.specs.Sending.{IsTypedBy, Sample, Sending, carried, datagram_of, datagrams_of}
 use Rattle.rtp_media_streams.specs.Sending.{packet_limit, samples_of, timestamp}
-use Rattle.rtp_media_streams.specs.declared.errors.RepairError.{RepairError}
-use Rattle.rtp_media_streams.specs.declared.errors.RepairError.TheVariants.{LimitTooSmall}
 use Rattle.rtp_media_streams.specs.declared.row_format.RowFormat.{RowFormat}
-use Rattle.rtp_media_streams.specs.declared.types.RepairKey.{RepairKey}
-use Rattle.rtp_media_streams.proofs.Sent.{writable}
 use Rattle.rtp_media_ends.specs.Ends.{EndState, after_open_receiver, receiver_at}
 use Rattle.rtp_media_ends.specs.FullArrival.{count_of, sent_samples}
 use Rattle.rtp_media_ends.specs.OwnEvents.{event_in}
@@ -78,6 +55,8 @@ use Rattle.rtp_media_forward_runs.specs.OpusForwarded.{time_over, units_in, valu
 use Rattle.rtp_media_forward_runs.specs.Published.{ArePublished, unit_on, units_on}
 use Rattle.rtp_media_forward_runs.specs.Virtual.{numbered_datagrams, virtual_datagrams}
 use Rattle.rtp_media_forward_runs.proofs.ForwardedRuns.{run-is}
+use Rattle.rtp_media_forward_runs.proofs.OneRepair.{is-made}
+use Rattle.rtp_media_forward_runs.proofs.TwoDatagrams.{ends-silent, tame-two, two_turns}
 
 opus-format : (row : RowFormat) → row.codec ≡ Opus → format_of row ≡ plain_format
 unfolding format_of
@@ -141,146 +120,6 @@ module _ (law : KeepCodecLawInForms) (reached : FirstIsReached) (h : Hop) (x : S
       arrives e n r same heard-one.receiver.found 0 content (slice_index_or (datagrams_of stream (x ∷ [])) 0 []) event
       ∙ ap₂ (λ (ss : List SentSample) (i : ℕ). let c : Content = slice_index_or (datagrams ss) i no_content in
       Own n 0 c.time c.marker c.values c.bytes) only-is back
-
-eqb-same : (a : ℕ) → (a == a) ≡ true
-eqb-same a = grind (arith, nat_tests)
-
-both-true : (a b : Bool) → a ≡ true → b ≡ true → (a && b) ≡ true
-both-true true b x y = y
-both-true false b x y = absurd (true≢false (sym x))
-
-byte-there : (bytes : List ℕ) → 0 < length bytes → has_byte (Some bytes) ≡ true
-byte-there [] some = absurd (omega arith)
-byte-there (b ∷ bs) some = refl
-
--- a datagram of a plain stream that has repairs is repaired
-module _ (s : Sending) (n : ℕ) (o : Outgoing) (key : RepairKey) (plain : IsPlain s) (none : s.redundancy ≡ None)
-    (has : s.types.repair ≡ Some key) (time : o.time < 2 ^ 32)
-    (values : AreValues o.values) (some : 0 < length o.payload)
-    (fits : length (datagram_of s n o) + 2 ≤ s.limit) where
-  abbrev d : List ℕ
-  d = datagram_of s n o
-
-  abbrev bare : RtpHeader
-  bare = header.header_of empty_map (layout_of s.map (header_of s n o.marker o.time o.values))
-
-  read : header_in empty_map d ≡ Some bare
-  read =
-      let wire : s.wire_type < 128 = omega (arith, plain.wire_type, plain.payload_type) in
-      let w : IsWritable (header_of s n o.marker o.time o.values) =
-      writable s n o.marker o.time o.values wire plain.ssrc time values in
-      header_in-layout empty_map (layout_of s.map (header_of s n o.marker o.time o.values)) o.payload
-      (IsLayout-of s.map (header_of s n o.marker o.time o.values) w)
-
-  body : payload_in bare d ≡ o.payload
-  body = payload_in-spelled s.map (header_of s n o.marker o.time o.values) o.payload
-
-  typed : (s.types.pt == s.wire_type) ≡ true
-  typed = ap (λ (t : ℕ). s.types.pt == t) plain.wire_type ∙ eqb-same s.types.pt
-
-  own : is_plainly_own s bare d ≡ true
-  own = both-true ((s.ssrc == s.ssrc) && (s.types.pt == s.wire_type)) (has_byte (Some (payload_in bare d)))
-      (both-true (s.ssrc == s.ssrc) (s.types.pt == s.wire_type) (eqb-same s.ssrc) typed)
-      (ap (λ (b : List ℕ). has_byte (Some b)) body ∙ byte-there o.payload some)
-
-  own-len : own_header_len s (header_in empty_map d) d ≡ Some bare.header_len
-  own-len =
-      ap (λ (q : Option RtpHeader). own_header_len s q d) read
-      ∙ ap (λ (b : Bool). option_map (λ (h : RtpHeader). h.header_len) (if b then Some bare else None)) own
-
-  below : nat_lt s.limit (length d + 2) ≡ false
-  below = grind (arith, nat_tests, fits)
-
-  pub is-made : is_made (Some (repair s d)) ≡ true
-  is-made =
-      ap (λ (k : Option RepairKey). is_made (Some (repair_by s k d)))
-      (ap (λ (b : Bool). let k : Option RepairKey = if b then None else s.types.repair in k)
-      (ap (λ (r : Option Redundancy). is_some r) none) ∙ has)
-      ∙ ap (λ (q : Option ℕ). is_made (Some (repair_under s key q d))) own-len
-      ∙ ap (λ (b : Bool). let made : Result (List ℕ) RepairError =
-      if b then Err LimitTooSmall
-      else Ok (repair_of key.pt s.repairs key.ssrc bare.header_len d) in
-      is_made (Some made)) below
-
--- orders of two datagrams
-both-came : AllCame 0 2 (1 ∷ 0 ∷ [])
-both-came zero low high = refl
-both-came (suc zero) low high = refl
-both-came (suc (suc y)) low high = absurd (omega arith)
-
-good-poll : (hold_back : ℕ) → IsGoodPoll 0 2 hold_back (1 ∷ 0 ∷ []) 1
-good-poll hold_back = record { begun = refl; held_back = inr both-came }
-
-at-least-one : (n : ℕ) → 2 ≤ n → 1 ≤ n
-at-least-one n two = omega (arith, two)
-
-abbrev two_turns : List Turn
-two_turns = turns.Arrive 0 ∷ turns.Arrive 1 ∷ Ask ∷ Ask ∷ Ask ∷ []
-
-tame-two : (holding : Holding) → 2 ≤ holding.held → IsTame 0 2 holding 1 [] 0 (1 ∷ 1 ∷ []) two_turns
-tame-two holding room = (
-  record {
-    from_first = omega arith;
-    before_end = omega arith;
-    near = omega arith;
-    in_reach = λ y low far. absurd (omega arith);
-  },
-  at-least-one holding.held room,
-  (
-    record {
-      from_first = omega arith;
-      before_end = omega arith;
-      near = (omega arith, omega arith);
-      in_reach = λ y low far. absurd (omega arith);
-    },
-    room,
-    (
-      good-poll holding.hold_back,
-      (good-poll holding.hold_back, (good-poll holding.hold_back, both-came)),
-    ),
-  ),
-)
-
--- no more is held than came
-held-more : (p : Packet) (ps : List Packet) → length (held_with p ps) ≤ length ps + 1
-held-more p [] = omega arith
-held-more p (q ∷ qs) = by (nat_cmp p.meta.seq_no q.meta.seq_no) (held-more p qs) where
-  by : (o : Ordering) → length (held_with p qs) ≤ length qs + 1
-      → length (match_ordering o (p ∷ q ∷ qs) (q ∷ qs) (q ∷ held_with p qs)) ≤ length (q ∷ qs) + 1
-  by Less ih = omega arith
-  by Equal ih = omega arith
-  by Greater ih = omega (arith, ih)
-
-taken-more : (t : Stream) (n : ℕ) (c : Content) → length (taken_by t n c).held ≤ length t.held + 1
-taken-more t n c = by (is_accepted t.window n) (is_done t.cutoff n) where
-  inside : (b : Bool) → length (if b then t.held
-      else limited t.holding.held (held_with (packet_of n c) t.held)) ≤ length t.held + 1
-  inside true = omega arith
-  inside false =
-      let more : length (held_with (packet_of n c) t.held) ≤ length t.held + 1 = held-more (packet_of n c) t.held in
-      let most : ℕ = length (held_with (packet_of n c) t.held) - t.holding.held in
-      omega (arith, more, length-drop most (held_with (packet_of n c) t.held))
-
-  by : (b d : Bool) → length (if b then record {
-    holding = t.holding;
-    window = Some (recorded_in t.window n);
-    held = (if d then t.held else limited t.holding.held (held_with (packet_of n c) t.held));
-    cutoff = t.cutoff;
-    fragment = t.fragment;
-  } else t).held ≤ length t.held + 1
-  by true d = inside d
-  by false d = omega arith
-
--- two arrivals and three polls end by None
-ends-silent : (format : Format) (holding : Holding) (a b : ℕ) (c d : Content)
-    → EndsSilent (heard format (fresh holding)
-    (hearing.Comes a c ∷ hearing.Comes b d ∷ hearing.Poll ∷ hearing.Poll ∷ hearing.Poll ∷ []))
-ends-silent format holding a b c d =
-    let t : Stream = taken_by (fresh holding) (number_at (fresh holding) a) c in
-    let u : Stream = taken_by t (number_at t b) d in
-    let none : length (fresh holding).held ≡ 0 = refl in
-    polls-end format 2 u
-    (omega (arith, none, taken-more (fresh holding) (number_at (fresh holding) a) c, taken-more t (number_at t b) d))
 
 same-time : (t at : ℕ) → t < 2 ^ 32 → at < 2 ^ 32 → shifted (shift_to t at) t ≡ at
 same-time t at small fits = omega (arith, small, fits)

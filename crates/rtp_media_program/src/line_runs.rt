@@ -178,35 +178,24 @@ pub fn run_lines<R: Read, W: Write, A: Respond>(
 /// Answers lines that are at hand by `responder`, as [`run_lines`] does; what it would write, and its status.
 ///
 /// # Errors
-/// If memory runs out.
+/// If memory runs out, and where the lines don't end within [`MAX_READS`] reads of 4,096 bytes.
 pub fn answer_lines<A: Respond>(
     alloc: Global,
     lines: &[u8],
     responder: &mut A,
-) -> Result<(Vec<u8>, Status), AllocError>
-    ensures { IfOk result (λ r. Printed A.gives responder.old responder.new (Some []) (Some r.0.items) lines.now r.1) }
+) -> Result<(Vec<u8>, Status), RunFault>
+    ensures answered { IfOk result (λ r. Printed A.gives responder.old responder.new (Some []) (Some r.0.items)
+        lines.now r.1) }
+    ensures fault { IfErr result (λ e. e ≢ Write) }
 {
+    let mut reader = lines;
     let mut replies = Vec::new(alloc);
-    match answer_whole(alloc, lines, responder, &mut replies) {
+    match run_lines(alloc, &mut reader, &mut replies, responder) {
         Ok(status) => Ok((replies, status)),
-        // Nothing is read, and a list takes whatever is written while there is memory.
-        Err(_) => Err(AllocError),
+        // A list takes whatever is written while there is memory.
+        Err(RunFault::Write) => Err(RunFault::Memory),
+        Err(fault) => Err(fault),
     }
-}
-
-/// Answers lines, the last one too.
-fn answer_whole<W: Write, A: Respond>(
-    alloc: Global,
-    lines: &[u8],
-    responder: &mut A,
-    writer: &mut W,
-) -> Result<Status, RunFault>
-    ensures { IfOk result (λ status. Printed A.gives responder.old responder.new (W.contents writer.old)
-        (W.contents writer.new) lines.now status) }
-{
-    let mut line = LineBuffer::new(alloc);
-    let status = take_piece(alloc, lines, Status::Success, &mut line, responder, writer)?;
-    take_end(alloc, status, &line, responder, writer)
 }
 
 /// Does what [`run_lines`] does in at most `reads` reads.
@@ -242,5 +231,5 @@ pub fn run_within<R: Read, W: Write, A: Respond>(
         }
         status = take_piece(alloc, &piece[..count], status, &mut line, responder, writer)?;
     }
-    Err(RunFault::TooManyReads)
+    Err(RunFault::Read)
 }

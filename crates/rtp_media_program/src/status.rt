@@ -42,12 +42,9 @@ impl Status {
 /// Why a run ended before the end of its input was answered.
 #[derive(Clone, Copy, Debug, Drop, Error, PartialEq, Eq)]
 pub enum RunFault {
-    /// A read failed.
+    /// A read failed, or the input doesn't end within 16,777,216 reads.
     #[error("read fault")]
     Read,
-    /// The input doesn't end within 16,777,216 reads.
-    #[error("too many reads")]
-    TooManyReads,
     /// A write failed, or took no bytes.
     #[error("write fault")]
     Write,

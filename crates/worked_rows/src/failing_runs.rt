@@ -108,7 +108,7 @@ static FAILING: [Run; 3] = [
     },
 ];
 
-/// An input that takes more reads than it may ends a run, and not one that takes just these.
+/// An input that takes more reads than it may ends a run as a read that fails does, and not one that takes just these.
 static READS: [Run; 2] = [
     Run {
         lines: b"fixed a\n",
@@ -125,7 +125,7 @@ static READS: [Run; 2] = [
         fails_to_read: false,
         room: usize::MAX,
         fails_to_write: false,
-        result: Err(RunFault::TooManyReads),
+        result: Err(RunFault::Read),
         written: b"ok\n",
     },
 ];
