@@ -2,7 +2,8 @@
 """A limit on the memory of the process (`ulimit -v`), while the input grows: thousands of lines of samples and of
 datagrams that are taken and never polled. Whatever the limit, `rtplines` ends by itself, with status 0, 1 or 2, and
 with `memory fault` on standard error where it is 1. The limits are found: from the least under which the program
-starts up to one under which the whole run ends with status 0. Run it behind `rt ci`.
+starts up to one under which the whole run ends with status 0. A sender that never ends a fragment of H.264 makes the
+memory grow, unless lines `keep` bound it. Run it behind `rt ci`.
 """
 
 import resource
@@ -24,6 +25,19 @@ def growing():
             yield f"receive b 806f{number:04x}000003c00000002c{PAYLOAD}"
         else:
             yield f"sample a 0 {960 * number} {PAYLOAD}"
+
+
+def endless(keeps):
+    """Frames that each go on with one fragment (RFC 6184 5.8), of 1,000 bytes; a limit of bytes now and then, or none."""
+    for end, session in (("a", 1), ("b", 2)):
+        yield from [f"row {end} 96 - - H264 90000 - packetization-mode=1;profile-level-id=42e01f", f"end {end} {session}"]
+    yield from ["connect 0:video:sendrecv:44 / 0:video:sendrecv:45", "open b 0 44 96 0"]
+    for number in range(LINES):
+        start = "85" if number == 0 else "05"
+        yield f"receive b 80e0{number:04x}{3000 * number:08x}0000002c7c{start}{PAYLOAD}"
+        yield "poll b 0"
+        if keeps and number % 64 == 63:
+            yield "keep b 0 65536"
 
 
 def ran(program, text, limit):
@@ -68,10 +82,24 @@ def tried(counts, build, program):
     counts.check(f"some runs wanted memory, {build}", faults > 0)
 
 
+def bounded(counts, build, program):
+    """With lines `keep` the same datagrams need less memory, by most of what they brought."""
+    most, needs = 1 << 18, {}
+    for keeps in (False, True):
+        text = "\n".join([*endless(keeps), ""]).encode()
+        whole = ran(program, text, most * 4096)
+        counts.check(f"a fragment without an end is taken, {build}", whole.returncode == 0
+                     and whole.stdout.count(b"\ntaken 0 ") == LINES, whole.stderr.decode(errors="replace")[:200])
+        needs[keeps] = least(lambda limit: ran(program, text, limit).returncode == 0, 0, most)
+    counts.check(f"a limit of bytes bounds it, {build}", (needs[False] - needs[True]) * 4096 > LINES * 800,
+                 f"{needs[False]} pages without, {needs[True]} with")
+
+
 def main():
     counts = Counts()
     for build, program in built.built(counts, built.LINES):
         tried(counts, build, program)
+        bounded(counts, build, program)
     counts.end()
 
 

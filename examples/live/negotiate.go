@@ -183,6 +183,14 @@ func (p *peer) settle() error {
 	return nil
 }
 
+// holdBack is how many frames wait for a missing packet: of a row without repairs there is little to wait for.
+func holdBack(row jilqamur.Row) int {
+	if row.Resend.Valid {
+		return 15
+	}
+	return 1
+}
+
 // openInbounds opens a receiving stream for each SSRC and row that isn't open yet.
 func (p *peer) openInbounds(a jilqamur.AgreedSection) error {
 	for _, ssrc := range a.SSRCs {
@@ -191,7 +199,8 @@ func (p *peer) openInbounds(a jilqamur.AgreedSection) error {
 				in.isActive = true
 				continue
 			}
-			stream, err := p.end.OpenReceiver(a.Mid, ssrc, row.PayloadType, jilqamur.ReceiverParams{HoldBack: 15})
+			params := jilqamur.ReceiverParams{HoldBack: holdBack(row)}
+			stream, err := p.end.OpenReceiver(a.Mid, ssrc, row.PayloadType, params)
 			if err != nil {
 				return err
 			}
