@@ -1,0 +1,16 @@
+use Rattle.std.proofs.Common.{◌≡◌, arith, ap}
+use Rattle.std.proofs.lemmas.Grind.{common_steps}
+use Rattle.rtp_media_streams.specs.Receiving.{Receiving}
+use Rattle.rtp_media_stream_table.specs.declared.open_stream.OpenStream.TheVariants.{Receiver}
+use Rattle.rtp_media_stream_table.specs.Streams.{nth_stream}
+use Rattle.rtp_media_stream_table.proofs.Indexing.{kept-receiver}
+use Rattle.rtp_media_stream_table.proofs.stream_table.StreamTable.keep_within.Goals as goal
+
+pub invariant_of-self : goal.invariant_of-self
+invariant_of-self c =
+    let is : nth_stream c.self.inside.streams.items c.args.stream ≡ Receiver c.in-Receiver.receiver =
+    grind (arith, common_steps) in
+    kept-receiver c.self.inside.senders c.self.inside.receivers c.self.inside.streams.items c.args.stream
+    c.in-Receiver.receiver c.keep_within.new.self is
+    (ap (λ (r : Receiving). r.ssrc) c.keep_within.ensures.after)
+    (ap (λ (r : Receiving). r.types) c.keep_within.ensures.after) c.self.invariant
