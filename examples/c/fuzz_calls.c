@@ -7,7 +7,7 @@
 
 #include "jilqamur.h"
 
-enum { HANDLES = 3, MOST_TEXT = 1 << 14, TEXTS = 6, ANSWERS = JILQAMUR_NO_PAYLOAD + 1, MOST_CALLS = 80 };
+enum { HANDLES = 3, MOST_TEXT = 1 << 14, TEXTS = 6, ANSWERS = JILQAMUR_NO_PAYLOAD + 1, MOST_CALLS = 83 };
 
 static jilqamur_window windows[HANDLES];
 static jilqamur_packetizer packetizers[HANDLES];
@@ -789,5 +789,5 @@ int main(int argc, char **argv)
             fprintf(stderr, "fuzz_calls: %s never answered that it was done\n", calls[at].name);
     }
     printf("%ld steps, %ld calls, each done: %s\n", count, made, made == done ? "yes" : "no");
-    return made == 80 && made == done ? 0 : 1;
+    return made == 83 && made == done ? 0 : 1;
 }
