@@ -119,7 +119,7 @@ static void open_streams(jilqamur_end *a, jilqamur_end *b)
     say("unsignalled", jilqamur_end_open_unsignalled(b, JILQAMUR_TEXT("a"), 99, 111, 2, JILQAMUR_MIN_HELD, &stream));
     check(jilqamur_end_open_receiver(b, JILQAMUR_TEXT("a"), 10, 111, 2, JILQAMUR_MIN_HELD, &stream));
     printf("receiver %zu\n", stream);
-    check(jilqamur_end_open_receiver(b, JILQAMUR_TEXT("v"), 11, 96, 2, JILQAMUR_MIN_HELD, &stream));
+    check(jilqamur_end_open_unsignalled(b, JILQAMUR_TEXT("v"), 11, 96, 2, JILQAMUR_MIN_HELD, &stream));
     printf("receiver %zu\n", stream);
 }
 

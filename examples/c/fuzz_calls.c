@@ -628,8 +628,9 @@ static void of_numbers(jilqamur_end *end)
         CALL(end_is_passed, end, stream, some_number());
         break;
     case 5:
-        CALL(end_pass_to, end, stream, below(9) ? below(40) : some_number());
-        CALL(end_pass_empty, end, stream, below(40));
+        number = below(9) ? below(40) : some_number();
+        CALL(end_pass_to, end, stream, number);
+        CALL(end_pass_empty, end, stream, number + below(3));
         if (!below(3))
             CALL(end_keep_within, end, stream, below(200));
         break;

@@ -382,7 +382,7 @@ fn open_streams(a: &mut End, b: &mut End) -> Done {
     say("unsignalled", &b.open_unsignalled("a", 10, 111, 2, 1));
     say("unsignalled", &b.open_unsignalled("a", 99, 111, 2, MIN_HELD));
     println!("receiver {}", b.open_receiver("a", 10, 111, 2, MIN_HELD)?);
-    println!("receiver {}", b.open_receiver("v", 11, 96, 2, MIN_HELD)?);
+    println!("receiver {}", b.open_unsignalled("v", 11, 96, 2, MIN_HELD)?);
     Ok(())
 }
 
