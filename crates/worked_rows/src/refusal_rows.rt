@@ -10,23 +10,11 @@ use sdp_formats_rows::FormatParams;
 use std::alloc::{AllocError, Global};
 
 /// Each row's name, and what came of it.
-pub(crate) fn refusal_rows(alloc: Global) -> [(&'static str, Option<bool>); 6] {
+pub(crate) fn refusal_rows(alloc: Global) -> [(&'static str, Option<bool>); 3] {
     [
         ("the second of two rows is not plain", not_plain(alloc)),
         ("a text without a header", unreadable(alloc)),
         ("rows by type", rows_by_type(alloc)),
-        (
-            "the first of two sections that are not media",
-            first_not_media(alloc),
-        ),
-        (
-            "the first of two answers without a row",
-            first_answer_without_row(alloc),
-        ),
-        (
-            "the first of two offers without a row",
-            first_offer_without_row(alloc),
-        ),
     ]
 }
 
@@ -102,52 +90,6 @@ fn unreadable(alloc: Global) -> Option<bool> {
         Err(ExchangeError::Unreadable(SdpError::ParseError(_))) => Some(true),
         _ => Some(false),
     }
-}
-
-/// An offer of two sections of data names the first.
-fn first_not_media(alloc: Global) -> Option<bool> {
-    let refusal = answer_refused(
-        alloc,
-        "v=0\r\no=- 1 2 IN IP4 0.0.0.0\r\ns=-\r\nt=0 0\r\na=group:BUNDLE 0 1\r\n\
-        m=application 9 UDP/DTLS/SCTP webrtc-datachannel\r\nc=IN IP4 0.0.0.0\r\na=mid:0\r\n\
-        m=application 9 UDP/DTLS/SCTP webrtc-datachannel\r\nc=IN IP4 0.0.0.0\r\na=mid:1\r\n",
-    )?;
-    Some(matches!(refusal, Some(ExchangeError::NotMedia(mid)) if mid == Mid::from("0")))
-}
-
-/// So does an offer of two sections without Opus, to an end of Opus.
-fn first_answer_without_row(alloc: Global) -> Option<bool> {
-    let refusal = answer_refused(
-        alloc,
-        "v=0\r\no=- 1 2 IN IP4 0.0.0.0\r\ns=-\r\nt=0 0\r\na=group:BUNDLE 0 1\r\n\
-        m=audio 9 UDP/TLS/RTP/SAVPF 0\r\nc=IN IP4 0.0.0.0\r\na=mid:0\r\na=sendrecv\r\na=rtpmap:0 PCMU/8000\r\n\
-        m=video 9 UDP/TLS/RTP/SAVPF 96\r\nc=IN IP4 0.0.0.0\r\na=mid:1\r\na=sendrecv\r\na=rtpmap:96 VP8/90000\r\n",
-    )?;
-    Some(matches!(refusal, Some(ExchangeError::NoCommonRow(mid)) if mid == Mid::from("0")))
-}
-
-/// Why an end of Opus refuses to answer an offer of section `0` and section `1`.
-fn answer_refused(alloc: Global, offer: &str) -> Option<Option<ExchangeError>> {
-    let mut exchange = opus(alloc)?;
-    let sections = two_sections(alloc).ok()?;
-    if !are_sound(sections.as_slice()) {
-        return None;
-    }
-    Some(exchange.answer(offer, sections).err())
-}
-
-/// An end of Opus has no row for either of two sections of video.
-fn first_offer_without_row(alloc: Global) -> Option<bool> {
-    let mut exchange = opus(alloc)?;
-    let mut sections = vec![in alloc; section(alloc, "0", MediaKind::Video, 44).ok()?].ok()?;
-    sections
-        .push(section(alloc, "1", MediaKind::Video, 46).ok()?)
-        .ok()?;
-    if !are_sound(sections.as_slice()) {
-        return None;
-    }
-    let refusal = exchange.offer(sections).err();
-    Some(matches!(refusal, Some(ExchangeError::NoCommonRow(mid)) if mid == Mid::from("0")))
 }
 
 /// For the default rows: the types are known, those of retransmissions aren't, telephone events go up to 16, and Opus

@@ -4,7 +4,7 @@ use media_types::Codec;
 use payload_core_buffer::MIN_HELD;
 use rtp_media_ends::{End, OpenError, StreamParams};
 use rtp_media_stream_table::{Received, StreamTable};
-use rtp_media_streams::{Datagram, PayloadTypes, ReceivingStream, RepairKey, RowFormat};
+use rtp_media_streams::{Datagram, PayloadTypes, ReceivingStream, RowFormat};
 use rtp_wire::{ExtensionMap, ExtensionValues, Frequency, MediaTime, Mid, Pt, SeqNo, Ssrc};
 use std::alloc::Global;
 
@@ -12,7 +12,7 @@ use std::alloc::Global;
 const TYPE: u8 = 111;
 
 /// What each row does, and whether it came out as it must.
-pub(crate) fn stream_rows(alloc: Global) -> [(&'static str, Option<bool>); 8] {
+pub(crate) fn stream_rows(alloc: Global) -> [(&'static str, Option<bool>); 7] {
     [
         (
             "missing numbers, and numbers that are done with",
@@ -34,10 +34,6 @@ pub(crate) fn stream_rows(alloc: Global) -> [(&'static str, Option<bool>); 8] {
         (
             "a sender that is closed and opened again",
             a_sender_again(alloc),
-        ),
-        (
-            "streams that have one type in common",
-            Some(streams_in_common()),
         ),
         (
             "a unit's values are its last packet's",
@@ -246,34 +242,6 @@ fn are_numbers(numbers: &[SeqNo], wanted: &[u64]) -> bool {
     numbers.len() == wanted.len() && numbers.iter().zip(wanted).all(|(a, b)| a.get() == *b)
 }
 
-/// Two streams of one SSRC have a datagram in common by redundancy alone, and two streams of different ones by their
-/// repairs alone.
-fn streams_in_common() -> bool {
-    let (first, second) = (Ssrc::from(44), Ssrc::from(46));
-    let key = RepairKey {
-        ssrc: Ssrc::from(45),
-        pt: Pt::from(97),
-    };
-    let red = types(111, Some(Pt::from(63)), None);
-    let other_red = types(0, Some(Pt::from(63)), None);
-    let repaired = types(96, None, Some(key));
-    let other_repaired = types(98, None, Some(key));
-    red.share_key(first, first, &other_red)
-        && !red.share_key(first, second, &other_red)
-        && !red.share_key(first, first, &types(0, None, None))
-        && repaired.share_key(first, second, &other_repaired)
-        && !repaired.share_key(first, second, &types(98, None, None))
-}
-
-/// A row's types: its own, that of redundancy, and where its repairs come.
-fn types(pt: u8, red: Option<Pt>, repair: Option<RepairKey>) -> PayloadTypes {
-    PayloadTypes {
-        pt: Pt::from(pt),
-        red,
-        repair,
-    }
-}
-
 /// Of a frame of VP8 in two packets whose header extensions differ, the unit has what the second one says.
 fn values_of_the_last_packet(alloc: Global) -> Option<bool> {
     let row = RowFormat {
@@ -283,7 +251,12 @@ fn values_of_the_last_packet(alloc: Global) -> Option<bool> {
         sprop_max_don_diff: None,
     };
     let (ssrc, exts) = (Ssrc::from(44), ExtensionMap::standard());
-    let stream = ReceivingStream::new(alloc, ssrc, types(96, None, None), exts, row, 15, MIN_HELD);
+    let types = PayloadTypes {
+        pt: Pt::from(96),
+        red: None,
+        repair: None,
+    };
+    let stream = ReceivingStream::new(alloc, ssrc, types, exts, row, 15, MIN_HELD);
     let mut table = StreamTable::new(alloc);
     if table.could_receive(stream.ssrc(), &stream.types()) {
         return None;
