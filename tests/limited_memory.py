@@ -28,15 +28,17 @@ def growing():
 
 
 def endless(keeps):
-    """Frames that each go on with one fragment (RFC 6184 5.8), of 1,000 bytes; a limit of bytes now and then, or none."""
+    """Frames of a small unit and 1,000 bytes more of one fragment (RFC 6184 5.8); a limit of bytes now and then, or
+    none."""
     for end, session in (("a", 1), ("b", 2)):
         yield from [f"row {end} 96 - - H264 90000 - packetization-mode=1;profile-level-id=42e01f", f"end {end} {session}"]
     yield from ["connect 0:video:sendrecv:44 / 0:video:sendrecv:45", "open b 0 44 96 0"]
-    for number in range(LINES):
-        start = "85" if number == 0 else "05"
-        yield f"receive b 80e0{number:04x}{3000 * number:08x}0000002c7c{start}{PAYLOAD}"
+    for number in range(0, LINES, 2):
+        start, time = "05" if number else "85", f"{3000 * number:08x}"
+        yield f"receive b 8060{number:04x}{time}0000002c41aa"
+        yield f"receive b 80e0{number + 1:04x}{time}0000002c7c{start}{PAYLOAD}"
         yield "poll b 0"
-        if keeps and number % 64 == 63:
+        if keeps and number % 128 == 0:
             yield "keep b 0 65536"
 
 
@@ -90,8 +92,8 @@ def bounded(counts, build, program):
         whole = ran(program, text, most * 4096)
         counts.check(f"a fragment without an end is taken, {build}", whole.returncode == 0
                      and whole.stdout.count(b"\ntaken 0 ") == LINES, whole.stderr.decode(errors="replace")[:200])
-        needs[keeps] = least(lambda limit: ran(program, text, limit).returncode == 0, 0, most)
-    counts.check(f"a limit of bytes bounds it, {build}", (needs[False] - needs[True]) * 4096 > LINES * 800,
+        needs[keeps] = least(lambda limit: ran(program, text, limit).stdout == whole.stdout, 0, most)
+    counts.check(f"a limit of bytes bounds it, {build}", (needs[False] - needs[True]) * 4096 > LINES * 400,
                  f"{needs[False]} pages without, {needs[True]} with")
 
 
