@@ -6,7 +6,7 @@ name public functions and types, and in parentheses clauses. docs/LAYERS.md is w
 headline of README that of PROMISES. On any page but CHANGELOG, which tells what is gone, a name with an
 underscore stands somewhere in the tree, and a block behind a line `<!-- FILE -->` word for word in that file, at one
 depth of indentation. No other line is longer than 120 characters, README has at most 130 lines, and each link within
-the repository leads to a file, and to a heading of it. Each wrong body in wrong_bodies/ and crates/*/must-fail/ changes
+the repository leads to a file, and to a heading of it. Each wrong body in tests/wrong_bodies/ and crates/*/must-fail/ changes
 text that its file has once. Counts on pages are those of the tree, if this script can tell, and premises that nothing
 meets those of docs/premises.py. A name is imported from the crate that defines it: only the crates for users hand names
 on, each straight from its crate, and only programs take them there. What calls of the library for C answer is numbered
@@ -236,7 +236,7 @@ def differing_headline():
 
 def stale_edits():
     """Edits whose old text isn't in its file once, after the pairs before it."""
-    for edit in sorted([*ROOT.glob("wrong_bodies/*/*.edit"), *CRATES.glob("*/must-fail/*.edit")]):
+    for edit in sorted([*ROOT.glob("tests/wrong_bodies/*/*.edit"), *CRATES.glob("*/must-fail/*.edit")]):
         crate = edit.parent.name if edit.parent.name != "must-fail" else edit.parent.parent.name
         texts, file, old = {}, None, ""
         for line in edit.read_text(encoding="utf-8").split("\n"):
@@ -310,17 +310,17 @@ def detours_in(crate, crates):
 
 def library_codes():
     """What calls of the library for C answer, by name, as its crate, its header and those over it number them."""
-    header = (ROOT / "include/jilqamur.h").read_text(encoding="utf-8")
+    header = (ROOT / "bindings/c/include/jilqamur.h").read_text(encoding="utf-8")
     listed = header.split("/* What calls return. */")[1].split("};")[0]
-    rust = (ROOT / "rust/src/error.rs").read_text(encoding="utf-8").split("mod code {")[1].split("}")[0]
-    python = (ROOT / "python/jilqamur/codes.py").read_text(encoding="utf-8").split("class Code")[1].split("TEXTS")[0]
+    rust = (ROOT / "bindings/rust/src/error.rs").read_text(encoding="utf-8").split("mod code {")[1].split("}")[0]
+    python = (ROOT / "bindings/python/jilqamur/codes.py").read_text(encoding="utf-8").split("class Code")[1].split("TEXTS")[0]
     constant = r"\bconst (\w+): u32 = (\d+);"
     yield "crates/jilqamur/src/codes.rt", re.findall(constant, sources("jilqamur").split("//! What calls return")[1])
-    yield "include/jilqamur.h", re.findall(r"\bJILQAMUR_(\w+) = (\d+)", listed)
-    yield "rust/src/error.rs", re.findall(constant, rust)
-    yield "python/jilqamur/codes.py", re.findall(r"^    (\w+) = (\d+)$", python, re.M)
-    go = (ROOT / "go/jilqamur/error.go").read_text(encoding="utf-8").split("var names = ")[1].split("}\n")[0]
-    yield "go/jilqamur/error.go", [(name, str(at)) for at, name in enumerate(re.findall(r'"(\w+)"', go))]
+    yield "bindings/c/include/jilqamur.h", re.findall(r"\bJILQAMUR_(\w+) = (\d+)", listed)
+    yield "bindings/rust/src/error.rs", re.findall(constant, rust)
+    yield "bindings/python/jilqamur/codes.py", re.findall(r"^    (\w+) = (\d+)$", python, re.M)
+    go = (ROOT / "bindings/go/jilqamur/error.go").read_text(encoding="utf-8").split("var names = ")[1].split("}\n")[0]
+    yield "bindings/go/jilqamur/error.go", [(name, str(at)) for at, name in enumerate(re.findall(r'"(\w+)"', go))]
 
 
 def differing_codes():
@@ -331,19 +331,19 @@ def differing_codes():
     for file, codes in others:
         for name, number in sorted(set(codes) ^ set(wanted)):
             yield f"{name} = {number} is in {file if (name, number) in codes else owner} alone"
-    header = (ROOT / "include/jilqamur.h").read_text(encoding="utf-8")
+    header = (ROOT / "bindings/c/include/jilqamur.h").read_text(encoding="utf-8")
     texts = re.findall(r'"([^"]*)"', header.split("const texts[] = {")[1].split("};")[0])
     if len(texts) != len(wanted):
-        yield f"include/jilqamur.h has {len(texts)} texts for {len(wanted)} codes"
+        yield f"bindings/c/include/jilqamur.h has {len(texts)} texts for {len(wanted)} codes"
     said = {name: text for (name, _), text in zip(wanted, texts)}
     in_rust, in_python = r'\(code::(\w+), \w+::(\w+), "([^"]*)"\)', r'Code\.(\w+)(): "([^"]*)"'
-    for file, row in (("rust/src/error.rs", in_rust), ("rust/src/payloads.rs", in_rust),
-                      ("python/jilqamur/codes.py", in_python)):
+    for file, row in (("bindings/rust/src/error.rs", in_rust), ("bindings/rust/src/payloads.rs", in_rust),
+                      ("bindings/python/jilqamur/codes.py", in_python)):
         for code, refusal, text in re.findall(row, (ROOT / file).read_text(encoding="utf-8")):
             if refusal and code.replace("_", "").lower() != refusal.lower():
                 yield f"{file}: code::{code} is {refusal}"
             if said.get(code) != text:
-                yield f"{file}: the text of {code} isn't that of include/jilqamur.h"
+                yield f"{file}: the text of {code} isn't that of bindings/c/include/jilqamur.h"
 
 
 def number_on(page, pattern):
@@ -355,9 +355,9 @@ def number_on(page, pattern):
 def differing_counts():
     """Numbers on pages that the tree has too: runs, limits, codes."""
     runs = (CRATES / "rtpexplain/stdin").read_text(encoding="utf-8").split("# Worked rows\n")[1]
-    worked, drawn = runs.split("# Schedules drawn by docs/vectors/schedules.py\n")
+    worked, drawn = runs.split("# Schedules drawn by tests/models/schedules.py\n")
     before, after = (len(part.strip("\n").split("\n\n")) for part in (worked, drawn))
-    header = (ROOT / "include/jilqamur.h").read_text(encoding="utf-8")
+    header = (ROOT / "bindings/c/include/jilqamur.h").read_text(encoding="utf-8")
     steps = re.search(r"^STEPS = (\d+)", (ROOT / "tests/limited_memory.py").read_text(encoding="utf-8"), re.M)
     for page, pattern, counted in (
             ("WORKED_ROWS.md", r"After run ([\d,]+) are", before),

@@ -6,7 +6,7 @@ import sys
 from pathlib import Path
 
 TOP = Path(__file__).resolve().parents[1]
-sys.path.insert(0, str(TOP / "docs" / "vectors"))
+sys.path.insert(0, str(TOP / "tests" / "models"))
 
 # What `rt ci` builds of each program: by LLVM, and by Rattle's own compiler.
 BUILDS = {"LLVM": "", "Rattle": ".by-rattle"}

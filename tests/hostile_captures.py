@@ -166,14 +166,17 @@ def interfaces():
     return out
 
 
-def ran(program, capture, arguments):
-    """The run's status, what it says, its seconds of a processor and its greatest memory; and the stream's file."""
+def ran(program, capture, arguments, most=None):
+    """The run, within this much of memory if it is given: its status, what it says, its seconds of a processor and its
+    greatest memory; and the stream's file."""
     with tempfile.TemporaryDirectory() as folder:
         Path(folder, "capture").write_bytes(capture)
 
         def limit_it():
             resource.setrlimit(resource.RLIMIT_CORE, (0, 0))
             resource.setrlimit(resource.RLIMIT_CPU, (60, 60))
+            if most:
+                resource.setrlimit(resource.RLIMIT_AS, (most, most))
         child = subprocess.Popen([program, "capture", "--out", "found", *arguments], cwd=folder,
                                  stdout=open(f"{folder}/said", "wb"), stderr=subprocess.STDOUT, preexec_fn=limit_it)
         _, status, used = os.wait4(child.pid, 0)
@@ -223,6 +226,63 @@ def encrypted(counts, build, program):
             counts.same(f"{name}, {build}", (wanted, wanted == 3), (status, "encrypted" in told.split("nearly")[0]))
 
 
+def in_kinds(datagrams):
+    """Captures of these datagrams, 20 ms apart, of each kind of file, each longer than a piece that is read at once."""
+    frames = [plain(datagram) for datagram in datagrams]
+    out = files.block(0x0A0D0D0A, struct.pack("<IHHq", 0x1A2B3C4D, 1, 0, -1))
+    out += files.block(1, struct.pack("<HHI", 1, 0, 0))
+    yield "pcapng", out + b"".join(files.block(6, struct.pack("<IIIII", 0, 0, 20000 * n, len(f), len(f)) + f)
+                                   for n, f in enumerate(frames))
+    yield "pcap", pcap_of(frames)
+    yield "rtpdump", b"#!rtpplay1.0 0.0.0.0/0\n" + b"\0" * 16 + b"".join(
+        struct.pack(">HHI", len(d) + 8, len(d), 20 * n) + d for n, d in enumerate(datagrams))
+    yield "lines", "".join(f"{20 * n} {d.hex()}\n" for n, d in enumerate(datagrams)).encode()
+
+
+def long_sound(count):
+    """Packets of the stream with a thousand bytes each."""
+    draw = drawn("long sound")
+    return [packet(number, payload=b"\x68" + draw.randbytes(1000)) for number in range(count)]
+
+
+def pieces(counts, build, program):
+    """A capture that is read in pieces gives what it gives in one, and takes memory for what waits and not for itself:
+    one of 34 MB is recorded within 24 MB. A line that is none is told by its number."""
+    datagrams = long_sound(4000)
+    wanted = files.opus_file(OWN, 2, [datagram[12:] for datagram in datagrams], [960] * len(datagrams))
+    for kind, capture in in_kinds(datagrams):
+        status, said, _, _, found = ran(program, capture, [*ROWS, "--mkv", "all.mkv"])
+        counts.check(f"{kind} in pieces, {build}", (status, found) == (0, wanted), f"{status}: {said[-300:]}")
+        if kind == "pcap":
+            long = pcap_of(map(plain, long_sound(32000)))
+            status, said, *_ = ran(program, long, [*ROWS, "--mkv", "all.mkv"], 24_000_000)
+            counts.check(f"memory for pieces, {build}", status == 0, f"{status}: {said[-300:]}")
+    status, said, *_ = ran(program, capture + b"no line\n", ROWS)
+    counts.check(f"a line that is none, {build}", status == 1 and "line 4001 " in said, said[-300:])
+
+
+def bundled_only(counts, build, program):
+    """A section of port 0 is read if it is offered in the bundle only, and else counts as rejected."""
+    section = ["m=audio 0 UDP/TLS/RTP/SAVPF 111", "a=rtpmap:111 opus/48000/2"]
+    for more, wanted in [(["a=bundle-only"], 0), ([], 3)]:
+        with tempfile.NamedTemporaryFile("w", suffix=".sdp") as text:
+            text.write("\r\n".join(TEXT[:4] + section + more + [""]))
+            text.flush()
+            status, said, *_ = ran(program, pcap([]), ["--sdp", text.name])
+            counts.check(f"bundled only, {build}: {wanted}", status == wanted, f"{status}: {said[-300:]}")
+
+
+def many_sources(counts, build, program):
+    """Twice as many SSRCs take about twice as long."""
+    took = []
+    for count in (10000, 20000):
+        frames = [plain(packet(n, 1 + number)) for number in range(count) for n in range(2)]
+        status, said, seconds, *_ = ran(program, pcap_of(frames), [*ROWS, "--list", "--most-streams", "30000"])
+        counts.check(f"{count} SSRCs, {build}", status == 0 and said.count("SSRC") == count, f"{status}: {said[-300:]}")
+        took.append(seconds)
+    counts.check(f"twice as many SSRCs, {build}", took[1] < 3 * took[0] + 0.2, f"{took[0]:.2f} and {took[1]:.2f} s")
+
+
 def pcap_of(frames):
     out = struct.pack("<IHHIIII", 0xA1B2C3D4, 2, 4, 0, 0, 65535, 1)
     return out + b"".join(struct.pack("<IIII", n, 0, len(f), len(f)) + f for n, f in enumerate(frames))
@@ -236,6 +296,9 @@ def main():
         for name, capture in captures:
             tried(counts, f"{name}, {build}", program, capture)
         encrypted(counts, build, program)
+        pieces(counts, build, program)
+        bundled_only(counts, build, program)
+        many_sources(counts, build, program)
         status, said, *_ = ran(program, b"\x1f\x8b\x08" + b"\0" * 30, ROWS)
         counts.check(f"gzip is refused by name, {build}", status == 1 and "gzip" in said, f"{status}: {said}")
     counts.end()

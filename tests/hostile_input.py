@@ -1,7 +1,7 @@
 #!/usr/bin/env python3
 """Hostile bytes, texts and rows at the built programs: worked rows 30 to 36; every list of at most two bytes at the
 readers of payloads; every byte changed in an offer and in two datagrams; two lists of datagrams that differ in foreign
-bytes alone. What must come is written here, or worked out by the models in docs/vectors, which share no code with the
+bytes alone. What must come is written here, or worked out by the models in tests/models, which share no code with the
 project. Run it behind `rt ci`.
 """
 
@@ -270,7 +270,7 @@ class Answered:
         return self.by_round(parts[0])
 
     def by_round(self, part):
-        """The round of the end's row against those of the section (docs/vectors/rounds.py)."""
+        """The round of the end's row against those of the section (tests/models/rounds.py)."""
         offered = next(a.kind for a in part.attributes if a.kind in sessions.DIRECTIONS)
         remote = [row_told(line) for line in sessions.rows(part)]
         own, said = rounds.run_round([rounds.video("VP8", 100, None)], remote, offered)
@@ -290,7 +290,7 @@ class Answered:
 
 
 def row_told(line):
-    """A row as docs/vectors/sessions.py tells it, for docs/vectors/rounds.py; without a format."""
+    """A row as tests/models/sessions.py tells it, for tests/models/rounds.py; without a format."""
     pt, codec, clock, channels, _, cc, *_, rtx, red = line.split(" ")
     number = [None if word == "-" else int(word) for word in (rtx, red, channels)]
     return rounds.Row(int(pt), number[0], number[1], cc == "cc", rounds.Spec(codec, int(clock), number[2]))

@@ -13,7 +13,7 @@ import built
 from built import Counts
 
 HERE = Path(__file__).resolve().parent
-FLAGS = ["-std=c11", "-Wall", "-Wextra", "-Werror", "-g", f"-I{built.TOP}/include", "-DWRAPPED",
+FLAGS = ["-std=c11", "-Wall", "-Wextra", "-Werror", "-g", f"-I{built.TOP}/bindings/c/include", "-DWRAPPED",
          "-Wl,--wrap=malloc,--wrap=realloc"]
 BUILDS = {"plain": [], "sanitizers": ["-fsanitize=address,undefined", "-fno-sanitize-recover=all"]}
 

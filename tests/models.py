@@ -26,7 +26,7 @@ SEEDS = ("2", "3")
 
 
 def run(folder, words):
-    command = [sys.executable, folder / "docs/vectors" / words[0], *words[1:]]
+    command = [sys.executable, folder / "tests/models" / words[0], *words[1:]]
     return subprocess.run(command, capture_output=True, text=True, timeout=600)
 
 
@@ -34,7 +34,7 @@ def stored_runs(counts):
     """Each model writes into a copy, which then is as it was."""
     with tempfile.TemporaryDirectory() as name:
         copy = Path(name)
-        shutil.copytree(TOP / "docs/vectors", copy / "docs/vectors")
+        shutil.copytree(TOP / "tests/models", copy / "tests/models")
         for crate in sorted({file.split("/")[0] for files in WRITTEN.values() for file in files} | {"browser_lines"}):
             shutil.copytree(TOP / "crates" / crate, copy / "crates" / crate, ignore=shutil.ignore_patterns("out", "proofs"))
         for words, files in WRITTEN.items():

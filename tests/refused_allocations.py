@@ -68,6 +68,11 @@ SESSIONS = {
     "row 14": ["fixed b", "open b 0 44 111 127", "receive b 000102", "receive b 80700000000000000000002c05",
                "receive b a06f0000000000000000002c0102", "poll b 0", "receive b 806f0000000000000000002c05",
                "receive b 806f0000000000000000002c05", "poll b 0", "poll b 0"],
+    "packets sent on": [
+        *both("96 97 - VP8 90000 - -"), "connect 0:video:sendrecv:44+45 / 0:video:sendrecv:46", "open a 0 46 96 127",
+        "send a 0 44 96 0 1200 1400 - -", "send b 0 46 96 0 3 1400 - -", "open b 0 44 96 127", "forwarder 100",
+        "switch 0 0 0 0 90000", "sample b 0 0 100200", "forward a 1 0 {2}", "forward a 1 0 {3}", "ends 0 2",
+        "reserve 0 1", "leave 0 2", "receive b {4}", "receive b {5}", "poll b 1"],
     "row 28": ["fixed a", "fixed b", "send a 0 44 111 0 1200 1400 - -", "open b 0 44 111 127", "queue 960 0a",
                "queue 1920 0b", "queue 2880 0c", "play 0 0 a0 p a2 p a1 p p p"],
 }
@@ -194,6 +199,10 @@ class Tries:
         if words[0] == "sample":
             self.failed.add(self.sends(line))
             self.expect(line, ["refused StreamFailed"], self.session.ask(line))
+            return
+        if words[0] == "forward":
+            # the packet's number is taken, and the packet lost
+            self.expect(line, ["refused"], self.session.ask(line))
             return
         if words[0] == "play":
             # a part may be done, and the kept samples are given up

@@ -140,6 +140,39 @@ func measureWaiting(waiting int) {
 	fmt.Fprintf(os.Stderr, "%d waiting: %d ns to receive and poll\n", waiting, nanos/turns)
 }
 
+// Sends a packet on to some subscribers: a header with SSRC, type and number of each, and the payload after it.
+func measureForwarding(name string, size, subscribers int) {
+	datagram := append([]byte{0x80, 111, 0, 0, 0, 0, 0, 0, 0, 0, 0, 44}, make([]byte, size)...)
+	numbers := make([]uint16, subscribers)
+	rounds := 2000 / subscribers
+	if rounds < 1 {
+		rounds = 1
+	}
+	bytes, number := 0, uint16(0)
+	nanos := fastest(func() {
+		for i := 0; i < rounds; i++ {
+			number++
+			packet := &rtp.Packet{}
+			if err := packet.Unmarshal(renumbered(datagram, number, number)); err != nil {
+				panic(err)
+			}
+			for j := range numbers {
+				numbers[j]++
+				sent := rtp.Packet{Header: packet.Header, Payload: packet.Payload}
+				sent.SSRC, sent.PayloadType, sent.SequenceNumber = uint32(j), 96, numbers[j]
+				made, err := sent.Marshal()
+				if err != nil {
+					panic(err)
+				}
+				bytes = len(made)
+			}
+		}
+	})
+	fmt.Printf("%s, %d subscribers: %d bytes in a datagram\n", name, subscribers, bytes)
+	fmt.Fprintf(os.Stderr, "%s, %d subscribers: %d ns to send a packet on to one\n", name, subscribers,
+		nanos/int64(rounds*subscribers))
+}
+
 func main() {
 	for _, size := range []int{12000, 196000} {
 		measure(line{"VP8", &codecs.VP8Payloader{EnablePictureID: true}, &codecs.VP8Packet{}, true, "", size})
@@ -149,5 +182,9 @@ func main() {
 	measure(line{"opus", &codecs.OpusPayloader{}, &codecs.OpusPacket{}, false, "", 120})
 	for _, waiting := range []int{0, 15, 255, 4095} {
 		measureWaiting(waiting)
+	}
+	for _, subscribers := range []int{1, 10, 1000} {
+		measureForwarding("opus", 120, subscribers)
+		measureForwarding("VP8", 1200, subscribers)
 	}
 }

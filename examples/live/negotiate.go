@@ -72,7 +72,21 @@ func (p *peer) answer(offer string) (string, error) {
 	if err := p.settle(); err != nil {
 		return "", err
 	}
+	if err := p.restart(); err != nil {
+		return "", err
+	}
 	return p.dressed(own, jilqamur.Passive)
+}
+
+// restart begins a new ICE session if the browser's offer does (RFC 8839, section 4.4.1.1.1).
+func (p *peer) restart() error {
+	remote, err := p.end.Remote()
+	if err != nil || !p.isReady || remote.Ufrag == p.ufrag {
+		return err
+	}
+	p.ufrag = remote.Ufrag
+	p.restarts++
+	return p.transport.restart(remote)
 }
 
 // offer offers what was agreed on, in its order, and the slots that are new.

@@ -44,18 +44,30 @@ function prefer(transceiver) {
   transceiver.setCodecPreferences(codecs.filter((it) => named.includes(it.mimeType.toLowerCase())));
 }
 
+/** Asks for Opus with redundancy (RFC 2198), which is sent if it is the first. */
+function preferRedundancy(transceiver) {
+  const named = ['audio/red', 'audio/opus'];
+  const codecs = RTCRtpReceiver.getCapabilities('audio').codecs;
+  const place = (it) => named.indexOf(it.mimeType.toLowerCase());
+  transceiver.setCodecPreferences(codecs.filter((it) => place(it) >= 0).sort((a, b) => place(a) - place(b)));
+}
+
+/** The local description with its candidates. Firefox says for a while that all are there as a new session begins. */
 async function gathered() {
-  while (pc.iceGatheringState !== 'complete') await pause(20);
+  const isDone = () => pc.iceGatheringState === 'complete' && pc.localDescription.sdp.includes('a=candidate');
+  for (let tries = 0; tries < 150 && !isDone(); tries++) await pause(20);
   return {sdp: pc.localDescription.sdp};
 }
 
 async function take(type, {sdp, candidates}) {
+  await counts();
   await pc.setRemoteDescription({type, sdp});
   for (const candidate of candidates) await pc.addIceCandidate({candidate, sdpMLineIndex: 0});
 }
 
 /** This browser offers, and the program answers. */
 async function offer() {
+  await counts();
   await pc.setLocalDescription(await pc.createOffer());
   await take('answer', await post('/offer', await gathered()));
 }
@@ -83,6 +95,7 @@ async function useCamera() {
 function add(track) {
   const transceiver = pc.addTransceiver(track, {direction: mode === 'echo' ? 'sendrecv' : 'sendonly'});
   if (track.kind === 'video') prefer(transceiver);
+  if (track.kind === 'audio' && asked.has('red')) preferRedundancy(transceiver);
 }
 
 function show({track, transceiver}) {
@@ -106,21 +119,31 @@ function show({track, transceiver}) {
   byId('videos').append(figure);
 }
 
-/** What this browser counts, by kind. */
+const counted = new Map(); // by statistic: its kind and name, what it counted before it began again, and counts now
+
+function count(it, name, value = 0) {
+  const key = `${it.id} ${name}`;
+  const {before, now} = counted.get(key) ?? {before: 0, now: 0};
+  counted.set(key, {kind: it.kind, name, before: value < now ? before + now : before, now: value});
+}
+
+/** What this browser counted, by kind. Firefox begins to count again after an offer, and forgets what was stopped. */
 async function counts() {
-  const found = {audio: {}, video: {}};
-  const sum = (of, name, value) => { of[name] = (of[name] ?? 0) + (value ?? 0); };
   for (const it of (await pc.getStats()).values()) {
-    const of = found[it.kind], isVideo = it.kind === 'video';
-    if (it.type === 'outbound-rtp') sum(of, 'sent', isVideo ? it.framesSent : it.packetsSent);
+    const isVideo = it.kind === 'video';
+    if (it.type === 'outbound-rtp') count(it, 'sent', isVideo ? it.framesSent : it.packetsSent);
     if (it.type === 'inbound-rtp') {
-      sum(of, 'received', isVideo ? it.framesReceived : it.packetsReceived);
-      sum(of, 'packets', it.packetsReceived);
-      sum(of, 'decoded', it.framesDecoded);
-      sum(of, 'dropped', it.framesDropped);
-      sum(of, 'asked', it.nackCount);
-      sum(of, 'keyFrames', it.keyFramesDecoded);
+      count(it, 'received', isVideo ? it.framesReceived : it.packetsReceived);
+      count(it, 'packets', it.packetsReceived);
+      count(it, 'decoded', it.framesDecoded);
+      count(it, 'dropped', it.framesDropped);
+      count(it, 'asked', it.nackCount);
+      count(it, 'keyFrames', it.keyFramesDecoded);
     }
+  }
+  const found = {audio: {}, video: {}};
+  for (const {kind, name, before, now} of counted.values()) {
+    found[kind][name] = (found[kind][name] ?? 0) + before + now;
   }
   return found;
 }
@@ -154,6 +177,10 @@ const actions = {
   },
   add: async () => {
     add(camera.getVideoTracks()[0]);
+    await offer();
+  },
+  restart: async () => {
+    pc.restartIce();
     await offer();
   },
   leave: async () => {
@@ -205,7 +232,8 @@ async function follow() {
 async function join() {
   byId('join').disabled = true;
   while (await post('/elapsed') < Number(asked.get('join') ?? 0)) await pause(100);
-  const joined = await post(`/join?codec=${byId('codec').value}&loss=${byId('loss').value}`);
+  const red = asked.has('red') ? '&red=1' : '';
+  const joined = await post(`/join?codec=${byId('codec').value}&loss=${byId('loss').value}${red}`);
   ({peer, mode} = joined);
   byId('about').textContent = about[mode];
   camera = await navigator.mediaDevices.getUserMedia({audio: true, video: {width: 320, height: 240}});

@@ -18,6 +18,8 @@ type peer struct {
 	inbounds  map[int]*inbound    // by the number of the end's stream
 	wants     bool                // whether the end has something to offer
 	isReady   bool                // whether the transport was told where the browser is
+	ufrag     string              // the browser's, for the ICE session that goes on
+	restarts  int                 // how often the browser began a new ICE session
 	ssrcs     uint32              // how many SSRCs were given
 	slots     int                 // how many sections the end made
 	counts    map[string]*counts  // by audio and video
@@ -37,6 +39,7 @@ type section struct {
 // counts are what was counted of a kind of media.
 type counts struct {
 	Arrived   int `json:"arrived"`   // packets that arrived, repairs among them
+	Redundant int `json:"redundant"` // of these, packets with redundancy (RFC 2198)
 	Frames    int `json:"frames"`    // frames that ended with one of them, by the marker bit
 	Lost      int `json:"lost"`      // packets that the hops lost
 	Asked     int `json:"asked"`     // packets that were asked for
@@ -60,9 +63,12 @@ var rows = map[string]struct {
 	"H264": {108, 109, "level-asymmetry-allowed=1;packetization-mode=1;profile-level-id=42e01f"},
 }
 
-// config is that of an end of Opus and one codec of video. A Chromium that answers sends the first row of an offer,
-// whichever its answer lists: an end has one codec.
-func config(session uint64, codec string) (jilqamur.Config, error) {
+// redundant is the type of Opus with redundancy.
+const redundant = 63
+
+// config is that of an end of Opus, with redundancy or without, and one codec of video. A Chromium that answers sends the
+// first row of an offer, whichever its answer lists: an end has one codec.
+func config(session uint64, codec string, withRED bool) (jilqamur.Config, error) {
 	chosen, isKnown := rows[codec]
 	if !isKnown {
 		return jilqamur.Config{}, fmt.Errorf("no codec %q", codec)
@@ -72,6 +78,9 @@ func config(session uint64, codec string) (jilqamur.Config, error) {
 		return jilqamur.Config{}, err
 	}
 	audio.Format = "minptime=10;useinbandfec=1"
+	if withRED {
+		audio.RED = jilqamur.Some[uint8](redundant)
+	}
 	video, err := jilqamur.NewRow(codec, chosen.payloadType)
 	video.Format, video.Resend = chosen.format, jilqamur.Some(chosen.resend)
 	return jilqamur.Config{Rows: []jilqamur.Row{audio, video}, Session: session, Extensions: []jilqamur.Extension{

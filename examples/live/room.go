@@ -22,12 +22,12 @@ type room struct {
 }
 
 // join takes a browser in.
-func (r *room) join(codec string, impaired impairment) (*peer, error) {
+func (r *room) join(codec string, withRED bool, impaired impairment) (*peer, error) {
 	r.lock.Lock()
 	r.joined++
 	id := r.joined
 	r.lock.Unlock()
-	made, err := config(uint64(time.Now().Unix())<<8+uint64(id), codec)
+	made, err := config(uint64(time.Now().Unix())<<8+uint64(id), codec, withRED)
 	if err != nil {
 		return nil, err
 	}
@@ -131,6 +131,9 @@ func (p *peer) hear(datagram []byte, now time.Time) {
 	if err != nil || in == nil {
 		return // it came before, or much too late
 	}
+	if in.row.RED.Valid && datagram[1]%128 == in.row.RED.Value {
+		p.counts[in.kind.String()].Redundant++
+	}
 	in.took(number, arrival.Timestamp, arrival.Marker, now)
 	in.recent.put(number, packet{arrival.Timestamp, arrival.Marker, arrival.Payload, arrival.Values}, now)
 	if p.room.isBridge {
@@ -226,5 +229,5 @@ func (p *peer) told() map[string]any {
 		}
 	}
 	return map[string]any{"video": *p.counts["video"], "audio": *p.counts["audio"], "agreed": agreed, "from": slots,
-		"wants": p.wants, "peers": len(p.room.peers), "id": p.id}
+		"wants": p.wants, "peers": len(p.room.peers), "id": p.id, "restarts": p.restarts}
 }

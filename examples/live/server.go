@@ -64,7 +64,7 @@ func (s *server) ServeHTTP(w http.ResponseWriter, r *http.Request) {
 func (s *server) answer(r *http.Request, body []byte) (any, error) {
 	query := r.URL.Query()
 	if r.URL.Path == "/join" {
-		return s.join(query.Get("codec"), query.Get("loss"))
+		return s.join(query.Get("codec"), query.Get("loss"), query.Get("red") != "")
 	}
 	if r.URL.Path == "/result" {
 		s.results <- body
@@ -99,13 +99,13 @@ func (s *server) answer(r *http.Request, body []byte) (any, error) {
 	return nil, fmt.Errorf("no page %s", r.URL.Path)
 }
 
-// join takes a browser in, which may choose a codec and a loss.
-func (s *server) join(codec, loss string) (any, error) {
+// join takes a browser in, which may choose a codec, a loss and redundancy of audio.
+func (s *server) join(codec, loss string, withRED bool) (any, error) {
 	impaired := s.room.impairment
 	if chosen, err := strconv.ParseFloat(loss, 64); err == nil && chosen >= 0 && chosen <= 100 {
 		impaired.Loss = chosen
 	}
-	p, err := s.room.join(codec, impaired)
+	p, err := s.room.join(codec, withRED, impaired)
 	if err != nil {
 		return nil, err
 	}
@@ -146,6 +146,7 @@ func (s *server) withCandidates(p *peer, said texts, hasOffered bool) (texts, er
 		p.isReady = true
 		remote, told := p.end.Remote()
 		if err = told; err == nil {
+			p.ufrag = remote.Ufrag
 			go s.connect(p, hasOffered, remote)
 		}
 	})

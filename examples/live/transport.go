@@ -53,19 +53,50 @@ func newTransport(inward, outward *hop) (*transport, error) {
 		return nil, err
 	}
 	t := &transport{agent: agent, certificate: certificate, inward: inward, outward: outward}
+	return t, t.gather()
+}
+
+// gather finds all candidates.
+func (t *transport) gather() error {
 	gathered := make(chan struct{})
-	err = agent.OnCandidate(func(c ice.Candidate) {
+	err := t.agent.OnCandidate(func(c ice.Candidate) {
 		if c == nil {
 			close(gathered)
 		}
 	})
 	if err == nil {
-		err = agent.GatherCandidates()
+		err = t.agent.GatherCandidates()
 	}
 	if err == nil {
 		<-gathered
 	}
-	return t, err
+	return err
+}
+
+// restart begins a new ICE session over the same keys.
+func (t *transport) restart(to jilqamur.Remote) error {
+	err := t.agent.Restart("", "")
+	if err == nil {
+		err = t.gather()
+	}
+	if err == nil {
+		err = t.agent.SetRemoteCredentials(to.Ufrag, to.Password)
+	}
+	t.addCandidates(to)
+	return err
+}
+
+// addCandidates tells the agent where the browser is.
+func (t *transport) addCandidates(to jilqamur.Remote) {
+	for _, text := range to.Candidates {
+		candidate, err := ice.UnmarshalCandidate(strings.TrimPrefix(text, "candidate:"))
+		if err == nil && candidate.NetworkType() == ice.NetworkTypeUDP4 {
+			err = t.agent.AddRemoteCandidate(candidate)
+		}
+		if err != nil {
+			fmt.Println("passed over:", text, err)
+		}
+	}
 }
 
 func (t *transport) close() {
@@ -90,15 +121,7 @@ func (t *transport) described(setup jilqamur.Setup) (jilqamur.Transport, error) 
 
 // connect reaches the browser: ICE first, then the keys by DTLS. Media and control are handed on as they are decrypted.
 func (t *transport) connect(offers bool, to jilqamur.Remote) error {
-	for _, text := range to.Candidates {
-		candidate, err := ice.UnmarshalCandidate(strings.TrimPrefix(text, "candidate:"))
-		if err == nil && candidate.NetworkType() == ice.NetworkTypeUDP4 {
-			err = t.agent.AddRemoteCandidate(candidate)
-		}
-		if err != nil {
-			fmt.Println("passed over:", text, err)
-		}
-	}
+	t.addCandidates(to)
 	join := t.agent.Accept
 	if offers {
 		join = t.agent.Dial

@@ -45,19 +45,31 @@ fn read_made(
 ) -> io::Result<()> {
     let lines = lines.repeat(rt.alloc(), times)?;
     let text = [HEAD, types, SECTION, lines.as_str()].concat(rt.alloc())?;
-    let read = measure(
-        rt,
-        what,
-        "read",
-        &mut Reading {
-            text: text.as_str(),
-        },
-        1,
-    )?;
+    read_once(rt, what, text.as_str())
+}
+
+/// Reads a text once with its rows.
+fn read_once(rt: &HostRuntime, what: &str, text: &str) -> io::Result<()> {
+    let read = measure(rt, what, "read", &mut Reading { text }, 1)?;
     println!(*rt;
         "{what}: {} rows\n{what}: {} bytes",
         read.packets, read.bytes
     )
+}
+
+/// Reads, once, a text whose section maps this many types, each with a hundred lines more.
+fn read_mapped(rt: &HostRuntime, count: u8) -> io::Result<()> {
+    let alloc = rt.alloc();
+    let mut maps = String::new(alloc);
+    let mut lines = String::new(alloc);
+    for pt in 0..count {
+        maps.push_str(format!(in alloc; "a=rtpmap:{pt} VP8/90000\r\n")?.as_str())?;
+        lines.push_str(format!(in alloc; "a=fmtp:{pt} x=1\r\na=rtcp-fb:{pt} nack\r\n")?.as_str())?;
+    }
+    let lines = lines.as_str().repeat(alloc, 50)?;
+    let text = [HEAD, SECTION, maps.as_str(), lines.as_str()].concat(alloc)?;
+    let what = format!(in alloc; "{count} types mapped")?;
+    read_once(rt, what.as_str(), text.as_str())
 }
 
 /// Each kind of text, read with its rows.
@@ -78,5 +90,9 @@ pub(crate) fn measure_all(rt: &HostRuntime) -> io::Result<()> {
         10_000,
     )?;
     let lines = "a=rtpmap:1 PCMU/8000\r\na=fmtp:2 apt=1\r\n";
-    read_made(rt, "one type mapped again", "", lines, 5_000)
+    read_made(rt, "one type mapped again", "", lines, 5_000)?;
+    for count in [16, 32, 64, 128] {
+        read_mapped(rt, count)?;
+    }
+    Ok(())
 }

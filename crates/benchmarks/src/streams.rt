@@ -1,7 +1,8 @@
 //! How fast streams are: each codec's sample into datagrams, and its datagrams received with a poll
-//! after each; and receiving while packets wait for a missing one. Counts go to standard output,
+//! after each; receiving while packets wait for a missing one; and packets sent on. Counts go to standard output,
 //! rates to standard error: those of the fastest of many time slices, which other load doesn't
 //! disturb.
+mod forwarding;
 mod line;
 mod receiving;
 mod sending;
@@ -17,9 +18,19 @@ const OPUS: &[u8] = &[8; 120];
 /// A frame of AMR-WB at 23.85 kbit/s.
 const SPEECH: &[u8] = &[0x44; 61];
 
+/// The line under another name, with three header extensions agreed.
+fn with_extensions<'a>(name: &'a str, line: Line<'a>) -> Line<'a> {
+    Line {
+        name,
+        has_extensions: true,
+        ..line
+    }
+}
+
 /// One line each way.
 fn measure(rt: &HostRuntime, line: &Line<'_>) -> io::Result<()> {
     sending::measure(rt, line)?;
+    sending::measure_into(rt, line)?;
     receiving::measure(rt, line)
 }
 
@@ -40,7 +51,13 @@ fn all_audio(rt: &HostRuntime) -> io::Result<()> {
     ] {
         measure(rt, &audio(name, codec, has_red, octet_align, sample))?;
     }
-    Ok(())
+    measure(
+        rt,
+        &with_extensions(
+            "opus, extensions",
+            audio("", Codec::Opus, false, None, OPUS),
+        ),
+    )
 }
 
 /// Pictures of video, each with what its samples begin with, a header or a start code, of AV1 with the size.
@@ -61,7 +78,11 @@ fn all_video(rt: &HostRuntime) -> io::Result<()> {
         let sample = sample_of(rt.alloc(), head, size)?;
         measure(rt, &video(name, codec, &sample))?;
     }
-    Ok(())
+    let sample = sample_of(rt.alloc(), b"", 12_000)?;
+    measure(
+        rt,
+        &with_extensions("VP8, extensions", video("", Codec::Vp8, &sample)),
+    )
 }
 
 /// All of it.
@@ -71,6 +92,11 @@ pub(crate) fn measure_all(rt: &HostRuntime) -> io::Result<()> {
     let opus = audio("opus", Codec::Opus, false, None, OPUS);
     for waiting in [0, 15, 255, 4_095] {
         receiving::measure_waiting(rt, &opus, waiting)?;
+    }
+    let sample = sample_of(rt.alloc(), b"", 12_000)?;
+    for count in [1, 10, 1_000] {
+        forwarding::measure(rt, &opus, count)?;
+        forwarding::measure(rt, &video("VP8", Codec::Vp8, &sample), count)?;
     }
     Ok(())
 }

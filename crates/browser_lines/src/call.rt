@@ -4,7 +4,7 @@ use crate::transport::Own;
 use rtp_media::{End, EndError, ExchangeError, SectionSpec, Session, are_sound};
 use rtp_media_browsers::{
     BrowserError, Plan, Wish, WishError, answer_for_end, for_browser, for_end, map_for_browsers,
-    rows_for_browsers, sections_for,
+    rows_for_browsers, sections_for, wishes_in_common,
 };
 use rtp_wire::SessionId;
 use sdp_formats_values::Setup;
@@ -49,25 +49,6 @@ impl From<AllocError> for CallError {
     }
 }
 
-/// What comes of a browser's offer.
-#[derive(Drop)]
-enum Answered {
-    /// What the browser gets.
-    Text(String),
-    /// No row is common in the section of this place.
-    NoCommonRow(usize),
-}
-
-/// What comes of an offer that the end refuses.
-fn refused(plan: &Plan, error: ExchangeError) -> Result<Answered, CallError> {
-    if let ExchangeError::NoCommonRow(mid) = &error {
-        if let Some(place) = plan.place_of(*mid) {
-            return Ok(Answered::NoCommonRow(place));
-        }
-    }
-    Err(CallError::Exchange(error))
-}
-
 /// An end, and what it remembers of its browser.
 #[derive(Drop)]
 pub(crate) struct Call {
@@ -94,39 +75,20 @@ impl Call {
         })
     }
 
-    /// The text the browser gets for its offer. A section without a row in common is rejected alone. If the offer is
+    /// The text the browser gets for its offer. Sections without a row in common are rejected alone. If the offer is
     /// refused, nothing changes.
     pub(crate) fn answer(&mut self, offer: &str, wishes: Vec<Wish>) -> Result<String, CallError> {
-        let mut wishes = wishes;
-        for _ in 0..=wishes.len() {
-            match self.answer_as_wished(offer, wishes.as_slice())? {
-                Answered::Text(text) => return Ok(text),
-                Answered::NoCommonRow(place) => {
-                    if let Some(wish) = wishes.get_mut(place) {
-                        *wish = Wish::Reject;
-                    }
-                }
-            }
-        }
-        Err(CallError::Browser(BrowserError::NothingLeft))
-    }
-
-    fn answer_as_wished(&mut self, offer: &str, wishes: &[Wish]) -> Result<Answered, CallError> {
         let alloc = self.alloc;
+        let wishes = wishes_in_common(alloc, &self.plan, self.end.config(), offer, wishes)?;
         let mut plan = self.plan.clone(alloc)?;
-        let text = for_end(alloc, &mut plan, offer, wishes)?;
-        let sections = sections_for(alloc, &plan, wishes)?;
+        let text = for_end(alloc, &mut plan, offer, wishes.as_slice())?;
+        let sections = sections_for(alloc, &plan, wishes.as_slice())?;
         if !are_sound(sections.as_slice()) {
             return Err(CallError::Unsound);
         }
-        match self.end.answer(text.as_str(), sections) {
-            Ok(answer) => {
-                self.plan = plan;
-                let text = self.dressed(answer.as_str(), self.own.setup)?;
-                Ok(Answered::Text(text))
-            }
-            Err(error) => refused(&plan, error),
-        }
+        let answer = self.end.answer(text.as_str(), sections)?;
+        self.plan = plan;
+        self.dressed(answer.as_str(), self.own.setup)
     }
 
     /// The end's offer as the browser gets it.

@@ -33,6 +33,12 @@ pub(crate) fn answer(
         "withdraw" => reply.put(if call.end.withdraw() { ": yes" } else { ": no" }),
         "remote" => put_remote(&call.plan.remote, reply),
         "creds" => call.own = Own::of(alloc, name, words)?,
+        "candidate" => {
+            if !call.own.add_candidate(alloc, rest)? {
+                reply.fault();
+            }
+        }
+        "lite" => call.own.is_lite = true,
         "setup" => {
             call.own.setup = match name {
                 "active" => Setup::Active,

@@ -2,7 +2,7 @@
 
 use rtp_media_browsers::{Gathering, Transport};
 use sdp_formats_grammar::{Listed, Text};
-use sdp_formats_values::{Fingerprint, IceCreds, Setup};
+use sdp_formats_values::{Candidate, Fingerprint, IceCreds, Setup, candidate_of};
 use std::alloc::{AllocError, Global};
 
 /// The digest of the certificate.
@@ -21,7 +21,9 @@ fn text(alloc: Global, text: &str) -> Result<Text, AllocError> {
 pub(crate) struct Own {
     ufrag: String,
     pass: String,
+    candidates: Vec<String>,
     pub(crate) setup: Setup,
+    pub(crate) is_lite: bool,
 }
 
 impl Own {
@@ -35,11 +37,35 @@ impl Own {
         Ok(Own {
             ufrag: String::from_str(alloc, ufrag)?,
             pass: String::from_str(alloc, pass)?,
+            candidates: Vec::new(alloc),
             setup: Setup::Passive,
+            is_lite: false,
         })
     }
 
-    /// What the browser is told; candidates come later.
+    /// Adds a candidate: with it no others come later. False if it isn't one.
+    pub(crate) fn add_candidate(&mut self, alloc: Global, value: &str) -> Result<bool, AllocError> {
+        if candidate_of(alloc, value).is_err() {
+            return Ok(false);
+        }
+        self.candidates.push(String::from_str(alloc, value)?)?;
+        Ok(true)
+    }
+
+    fn gathering(&self, alloc: Global) -> Result<Gathering, AllocError> {
+        let mut candidates: Vec<Candidate> = Vec::new(alloc);
+        for value in &self.candidates {
+            if let Ok(candidate) = candidate_of(alloc, value.as_str()) {
+                candidates.push(candidate)?;
+            }
+        }
+        if candidates.is_empty() {
+            return Ok(Gathering::Trickling);
+        }
+        Ok(Gathering::Done(Listed::of(candidates)))
+    }
+
+    /// What the browser is told; without candidates they come later.
     pub(crate) fn transport(&self, alloc: Global, setup: Setup) -> Result<Transport, AllocError> {
         let ufrag = text(alloc, self.ufrag.as_str())?;
         let pass = text(alloc, self.pass.as_str())?;
@@ -47,10 +73,10 @@ impl Own {
         let bytes = Listed::of(Vec::from_slice(alloc, &DIGEST)?);
         Ok(Transport {
             creds: IceCreds { ufrag, pass },
-            gathering: Gathering::Trickling,
+            gathering: self.gathering(alloc)?,
             fingerprint: Fingerprint { hash_func, bytes },
             setup,
-            is_lite: false,
+            is_lite: self.is_lite,
         })
     }
 }

@@ -4,7 +4,7 @@ use Rattle.payload_core_vpx.specs.Vp8Forms as vpx
 use Rattle.payload_core_vpx.specs.Vp9 as vp9
 use Rattle.payload_core_base.specs.Law.{CodecLaw}
 use Rattle.media_types.specs.declared.codec.Codec.{Codec}
-use Rattle.media_types.specs.declared.codec.Codec.TheVariants.{Opus, PCMU, PCMA, G722, CN, AmrWb, H264, H265}
+use Rattle.media_types.specs.declared.codec.Codec.TheVariants.{Opus, CN, AmrWb, H264, H265}
 use Rattle.media_types.specs.declared.codec.Codec.TheVariants.{H266, Vp8, Vp9, Av1, Tele, Rtx, Red, Null}
 use Rattle.media_types.specs.declared.codec.Codec.TheVariants.{Unknown}
 use Rattle.payload_core_audio.specs.AmrWb.{amr_wb_coding}

@@ -227,26 +227,27 @@ impl<B: Packetizer> Packetizer for CodecPacketizer<B> {
       | CodecPacketizer.Boxed b ↦ B.sender b
     ] };
 
-    fn packetize(
+    fn packetize_with_prefix(
         &mut self,
         alloc: Global,
+        prefix: &[u8],
         mtu: usize,
         bytes: &[u8],
     ) -> Result<Vec<Vec<u8>>, PacketError> {
         match self {
-            CodecPacketizer::G711(p) => p.packetize(alloc, mtu, bytes),
-            CodecPacketizer::G722(p) => p.packetize(alloc, mtu, bytes),
-            CodecPacketizer::Opus(p) => p.packetize(alloc, mtu, bytes),
-            CodecPacketizer::ComfortNoise(p) => p.packetize(alloc, mtu, bytes),
-            CodecPacketizer::AmrWb(p) => p.packetize(alloc, mtu, bytes),
-            CodecPacketizer::Telephone(p) => p.packetize(alloc, mtu, bytes),
-            CodecPacketizer::Vp8(p) => p.packetize(alloc, mtu, bytes),
-            CodecPacketizer::Vp9(p) => p.packetize(alloc, mtu, bytes),
-            CodecPacketizer::Av1(p) => p.packetize(alloc, mtu, bytes),
-            CodecPacketizer::H264(p) => p.packetize(alloc, mtu, bytes),
-            CodecPacketizer::H265(p) => p.packetize(alloc, mtu, bytes),
-            CodecPacketizer::H266(p) => p.packetize(alloc, mtu, bytes),
-            CodecPacketizer::Boxed(p) => p.packetize(alloc, mtu, bytes),
+            CodecPacketizer::G711(p) => p.packetize_with_prefix(alloc, prefix, mtu, bytes),
+            CodecPacketizer::G722(p) => p.packetize_with_prefix(alloc, prefix, mtu, bytes),
+            CodecPacketizer::Opus(p) => p.packetize_with_prefix(alloc, prefix, mtu, bytes),
+            CodecPacketizer::ComfortNoise(p) => p.packetize_with_prefix(alloc, prefix, mtu, bytes),
+            CodecPacketizer::AmrWb(p) => p.packetize_with_prefix(alloc, prefix, mtu, bytes),
+            CodecPacketizer::Telephone(p) => p.packetize_with_prefix(alloc, prefix, mtu, bytes),
+            CodecPacketizer::Vp8(p) => p.packetize_with_prefix(alloc, prefix, mtu, bytes),
+            CodecPacketizer::Vp9(p) => p.packetize_with_prefix(alloc, prefix, mtu, bytes),
+            CodecPacketizer::Av1(p) => p.packetize_with_prefix(alloc, prefix, mtu, bytes),
+            CodecPacketizer::H264(p) => p.packetize_with_prefix(alloc, prefix, mtu, bytes),
+            CodecPacketizer::H265(p) => p.packetize_with_prefix(alloc, prefix, mtu, bytes),
+            CodecPacketizer::H266(p) => p.packetize_with_prefix(alloc, prefix, mtu, bytes),
+            CodecPacketizer::Boxed(p) => p.packetize_with_prefix(alloc, prefix, mtu, bytes),
         }
     }
 

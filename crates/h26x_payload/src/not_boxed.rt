@@ -16,9 +16,10 @@ impl Packetizer for NotBoxed {
 
     ghost sender = { λ _. idle_sender };
 
-    fn packetize(
+    fn packetize_with_prefix(
         &mut self,
         alloc: Global,
+        _prefix: &[u8],
         _mtu: usize,
         _bytes: &[u8],
     ) -> Result<Vec<Vec<u8>>, PacketError> {

@@ -1,6 +1,6 @@
 -- What the sender's code makes, piece by piece.
-use Rattle.std.proofs.Common.{◌≡◌, ℕ, ◌-◌, ◌<◌, ◌≤◌, Bool, true, false, eqb, List, ◌∷◌, ◌++◌, length, take, drop, min}
-use Rattle.std.proofs.Common.{Option, Some, None, sym, ap, ◌∙◌, inl, inr, append_assoc, arith}
+use Rattle.std.proofs.Common.{◌≡◌, ℕ, ◌-◌, ◌<◌, ◌≤◌, Bool, true, false, eqb, List, [], ◌∷◌, ◌++◌, length, take, drop}
+use Rattle.std.proofs.Common.{min, Option, Some, None, sym, ap, ◌∙◌, inl, inr, append_assoc, arith}
 use Rattle.std.proofs.lemmas.Bool.{cases_lt}
 use Rattle.std.proofs.lemmas.List.{append-nil, drop_all, take_all}
 use Rattle.std.proofs.lemmas.List.Concat.{flat_map-append}
@@ -73,7 +73,7 @@ laid_behind l donl number (Some vps) sps pps =
     (sym (append-nil (sized pps)))
 
 -- the sets of an aggregate after its header, as they are written
-pub sets_laid : (l : Layout) (donl : Bool) (number : ℕ) (vps : Option (List ℕ)) (sps pps : List ℕ)
+sets_laid : (l : Layout) (donl : Bool) (number : ℕ) (vps : Option (List ℕ)) (sps pps : List ℕ)
     → (((donl_bytes donl number ++ sized_before l donl vps) ++ sized sps) ++ dond_bytes l donl) ++ sized pps
     ≡ in_aggregate (donl_bytes donl number) (dond_bytes l donl) (joining vps sps pps)
 sets_laid l donl number vps sps pps =
@@ -84,3 +84,23 @@ sets_laid l donl number vps sps pps =
     ∙ append_assoc (first ++ before) (sized sps) (later ++ sized pps)
     ∙ append_assoc first before (sized sps ++ (later ++ sized pps))
     ∙ laid_behind l donl number vps sps pps
+
+-- an aggregate after these bytes, as it is written
+pub aggregate_laid : (l : Layout) (donl : Bool) (number : ℕ) (vps : Option (List ℕ)) (sps pps prefix : List ℕ)
+    (high low : ℕ)
+    → ((((((prefix ++ high ∷ []) ++ low ∷ []) ++ donl_bytes donl number) ++ sized_before l donl vps) ++ sized sps)
+    ++ dond_bytes l donl) ++ sized pps
+    ≡ prefix ++ high ∷ low ∷ in_aggregate (donl_bytes donl number) (dond_bytes l donl) (joining vps sps pps)
+aggregate_laid l donl number vps sps pps prefix high low =
+    let first : List ℕ = donl_bytes donl number in
+    let later : List ℕ = dond_bytes l donl in
+    let before : List ℕ = sized_before l donl vps in
+    let header : List ℕ = high ∷ low ∷ [] in
+    ap (λ t. ((((t ++ first) ++ before) ++ sized sps) ++ later) ++ sized pps)
+    (append_assoc prefix (high ∷ []) (low ∷ []))
+    ∙ ap (λ t. (((t ++ before) ++ sized sps) ++ later) ++ sized pps) (append_assoc prefix header first)
+    ∙ ap (λ t. ((t ++ sized sps) ++ later) ++ sized pps) (append_assoc prefix (header ++ first) before)
+    ∙ ap (λ t. (t ++ later) ++ sized pps) (append_assoc prefix (header ++ (first ++ before)) (sized sps))
+    ∙ ap (λ t. t ++ sized pps) (append_assoc prefix (header ++ ((first ++ before) ++ sized sps)) later)
+    ∙ append_assoc prefix (header ++ (((first ++ before) ++ sized sps) ++ later)) (sized pps)
+    ∙ ap (λ t. prefix ++ high ∷ low ∷ t) (sets_laid l donl number vps sps pps)

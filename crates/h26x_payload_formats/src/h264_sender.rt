@@ -4,19 +4,21 @@ ghost use Rattle.h26x_payload_units.specs.Units.{units_of};
 ghost use Rattle.h26x_payload_units.specs.Departures.{alone, departing, departures, together, waiting_after};
 ghost use Rattle.h26x_payload_units.specs.Departures.{waiting_behind};
 ghost use Rattle.h26x_payload_units.specs.Departures.Role.{Leaves};
-ghost use Rattle.h26x_payload_formats.specs.H264Packing.{fragments_of, fu_a, h264_packing, h264_rules, packets_of};
-ghost use Rattle.h26x_payload_formats.specs.H264Packing.{role_by, stap_a, unit_type};
+ghost use Rattle.h26x_payload_formats.specs.H264Packing.{fragments_of, h264_packing, h264_rules, packets_of};
+ghost use Rattle.h26x_payload_formats.specs.H264Packing.{role_by, unit_type};
 ghost use Rattle.h26x_payload_formats.specs.H264Waiting.{waiting_in};
+ghost use Rattle.payload_core_base.specs.Packing.{with_prefix};
 ghost use Rattle.std.specs.List.{flat_map};
 ghost use Rattle.std.specs.Prelude.{[], ◌∷◌, ◌≡◌, ◌++◌, ◌<◌, ◌≤◌, IfOk, None, OnOk, Some, length, map};
 ghost use Rattle.std.specs.Prelude.{option_map};
 
 use crate::h264_constants::{
-    AUD_NALU_TYPE, FILLER_NALU_TYPE, FUA_HEADER_SIZE, FUA_NALU_TYPE, OUTPUT_STAP_AHEADER,
-    PPS_NALU_TYPE, SPS_NALU_TYPE, STAPA_HEADER_SIZE, STAPA_NALU_LENGTH_SIZE,
+    AUD_NALU_TYPE, FILLER_NALU_TYPE, FUA_HEADER_SIZE, PPS_NALU_TYPE, SPS_NALU_TYPE,
+    STAPA_HEADER_SIZE, STAPA_NALU_LENGTH_SIZE,
 };
+use crate::h264_packets::{fu_a, single, stap_a};
 use crate::headers::type_of;
-use h26x_payload_units::{copy_of_set, nal_units, push_sized, set_of};
+use h26x_payload_units::{copy_of_set, nal_units, set_of};
 use payload_core_base::{PacketError, Packetizer};
 use std::alloc::{AllocError, Global};
 
@@ -66,29 +68,18 @@ fn unit_type(unit: &[u8]) -> u8
     }
 }
 
-/// The STAP-A of two parameter sets.
-fn stap_a(alloc: Global, sps: &[u8], pps: &[u8]) -> Result<Vec<u8>, AllocError>
-    requires sps { length sps.now ≤ 65535 }
-    requires pps { length pps.now ≤ 65535 }
-    ensures { IfOk result (λ p. p.items ≡ stap_a (sps.now ∷ pps.now ∷ [])) }
-{
-    let mut packet = Vec::new(alloc);
-    packet.push(OUTPUT_STAP_AHEADER)?;
-    push_sized(sps, &mut packet)?;
-    push_sized(pps, &mut packet)?;
-    Ok(packet)
-}
-
 /// Sends two parameter sets in one packet, if they fit.
 fn push_together(
     alloc: Global,
+    prefix: &[u8],
     limit: usize,
     sps: &[u8],
     pps: &[u8],
     packets: &mut Vec<Vec<u8>>,
 ) -> Result<(), AllocError>
     ensures { OnOk result (map (λ p. p.items) packets.new.items ≡ map (λ p. p.items) packets.old.items
-        ++ flat_map (packets_of limit) (together h264_rules limit (sps.now ∷ pps.now ∷ []))) }
+        ++ with_prefix prefix.now
+        (flat_map (packets_of limit) (together h264_rules limit (sps.now ∷ pps.now ∷ [])))) }
 {
     if sps.len() > MAX_AGGREGATED || pps.len() > MAX_AGGREGATED {
         return Ok(());
@@ -97,39 +88,21 @@ fn push_together(
     if size > limit {
         return Ok(());
     }
-    packets.push(stap_a(alloc, sps, pps)?)?;
+    packets.push(stap_a(alloc, prefix, sps, pps)?)?;
     Ok(())
-}
-
-/// A fragment of a unit.
-fn fu_a(
-    alloc: Global,
-    header: u8,
-    first: bool,
-    last: bool,
-    part: &[u8],
-) -> Result<Vec<u8>, AllocError>
-    ensures { IfOk result (λ p. p.items ≡ fu_a header first last part.now) }
-{
-    let start: u8 = if first { 128 } else { 0 };
-    let end: u8 = if last { 64 } else { 0 };
-    let mut packet = Vec::with_capacity(alloc, part.len().saturating_add(FUA_HEADER_SIZE))?;
-    packet.push(header / 32 % 4 * 32 + FUA_NALU_TYPE)?;
-    packet.push(start + end + type_of(header))?;
-    packet.extend_from_slice(part)?;
-    Ok(packet)
 }
 
 /// Sends the fragments of a unit.
 fn push_fragments(
     alloc: Global,
+    prefix: &[u8],
     limit: usize,
     unit: &[u8],
     packets: &mut Vec<Vec<u8>>,
 ) -> Result<(), AllocError>
     requires { 3 ≤ limit }
     ensures { OnOk result (map (λ p. p.items) packets.new.items ≡ map (λ p. p.items) packets.old.items
-        ++ fragments_of limit unit.now) }
+        ++ with_prefix prefix.now (fragments_of limit unit.now)) }
 {
     let Some((header, body)) = unit.split_first() else {
         return Ok(());
@@ -138,7 +111,7 @@ fn push_fragments(
     let mut left = body.len();
     for part in body.chunks(limit - FUA_HEADER_SIZE) {
         left -= part.len();
-        packets.push(fu_a(alloc, *header, first, left == 0, part)?)?;
+        packets.push(fu_a(alloc, prefix, *header, first, left == 0, part)?)?;
         first = false;
     }
     Ok(())
@@ -147,47 +120,50 @@ fn push_fragments(
 /// Sends one NAL unit, if it can be sent.
 fn push_alone(
     alloc: Global,
+    prefix: &[u8],
     limit: usize,
     unit: &[u8],
     packets: &mut Vec<Vec<u8>>,
 ) -> Result<(), AllocError>
     ensures { OnOk result (map (λ p. p.items) packets.new.items ≡ map (λ p. p.items) packets.old.items
-        ++ flat_map (packets_of limit) (alone h264_rules limit unit.now)) }
+        ++ with_prefix prefix.now (flat_map (packets_of limit) (alone h264_rules limit unit.now))) }
 {
     if unit.len() <= limit {
-        packets.push(Vec::from_slice(alloc, unit)?)?;
+        packets.push(single(alloc, prefix, unit)?)?;
         return Ok(());
     }
     if limit <= FUA_HEADER_SIZE {
         return Ok(());
     }
-    push_fragments(alloc, limit, unit, packets)
+    push_fragments(alloc, prefix, limit, unit, packets)
 }
 
 /// Sends a NAL unit, preceded by the parameter sets if both are held back; returns the sets held
 /// back afterwards.
 fn push_leaving<'a>(
     alloc: Global,
+    prefix: &[u8],
     limit: usize,
     unit: &[u8],
     waiting: WaitingSets<'a>,
     packets: &mut Vec<Vec<u8>>,
 ) -> Result<WaitingSets<'a>, AllocError>
     ensures packets { OnOk result (map (λ p. p.items) packets.new.items ≡ map (λ p. p.items) packets.old.items
-        ++ flat_map (packets_of limit) (departing h264_rules limit Leaves (waiting_in waiting.entry) unit.now)) }
+        ++ with_prefix prefix.now
+        (flat_map (packets_of limit) (departing h264_rules limit Leaves (waiting_in waiting.entry) unit.now))) }
     ensures waiting { IfOk result (λ w. waiting_in w
         ≡ waiting_behind h264_rules Leaves (waiting_in waiting.entry) unit.now) }
 {
     let Some(sps) = waiting.sps else {
-        push_alone(alloc, limit, unit, packets)?;
+        push_alone(alloc, prefix, limit, unit, packets)?;
         return Ok(waiting);
     };
     let Some(pps) = waiting.pps else {
-        push_alone(alloc, limit, unit, packets)?;
+        push_alone(alloc, prefix, limit, unit, packets)?;
         return Ok(waiting);
     };
-    push_together(alloc, limit, sps, pps, packets)?;
-    push_alone(alloc, limit, unit, packets)?;
+    push_together(alloc, prefix, limit, sps, pps, packets)?;
+    push_alone(alloc, prefix, limit, unit, packets)?;
     Ok(WaitingSets {
         sps: None,
         pps: None,
@@ -197,14 +173,15 @@ fn push_leaving<'a>(
 /// Sends what is to be sent for a unit; returns the sets held back afterwards.
 fn push_unit<'a>(
     alloc: Global,
+    prefix: &[u8],
     limit: usize,
     unit: &'a [u8],
     waiting: WaitingSets<'a>,
     packets: &mut Vec<Vec<u8>>,
 ) -> Result<WaitingSets<'a>, AllocError>
     ensures packets { OnOk result (map (λ p. p.items) packets.new.items ≡ map (λ p. p.items) packets.old.items
-        ++ flat_map (packets_of limit) (departing h264_rules limit (role_by (unit_type unit.now))
-        (waiting_in waiting.entry) unit.now)) }
+        ++ with_prefix prefix.now (flat_map (packets_of limit) (departing h264_rules limit
+        (role_by (unit_type unit.now)) (waiting_in waiting.entry) unit.now))) }
     ensures waiting { IfOk result (λ w. waiting_in w
         ≡ waiting_behind h264_rules (role_by (unit_type unit.now)) (waiting_in waiting.entry) unit.now) }
 {
@@ -218,26 +195,28 @@ fn push_unit<'a>(
             sps: waiting.sps,
             pps: Some(unit),
         }),
-        _ => push_leaving(alloc, limit, unit, waiting, packets),
+        _ => push_leaving(alloc, prefix, limit, unit, waiting, packets),
     }
 }
 
 /// Sends what leaves of a sample's units; the sets that wait then.
 fn push_units<'a>(
     alloc: Global,
+    prefix: &[u8],
     limit: usize,
     sample: &'a [u8],
     waiting: WaitingSets<'a>,
     packets: &mut Vec<Vec<u8>>,
 ) -> Result<WaitingSets<'a>, AllocError>
     ensures packets { OnOk result (map (λ p. p.items) packets.new.items ≡ map (λ p. p.items) packets.old.items
-        ++ flat_map (packets_of limit) (departures h264_rules limit (waiting_in waiting.entry) (units_of sample.now))) }
+        ++ with_prefix prefix.now (flat_map (packets_of limit)
+        (departures h264_rules limit (waiting_in waiting.entry) (units_of sample.now)))) }
     ensures waiting { IfOk result (λ w. waiting_in w
         ≡ waiting_after h264_rules (waiting_in waiting.entry) (units_of sample.now)) }
 {
     let mut waiting = waiting;
     for unit in nal_units(sample) {
-        waiting = push_unit(alloc, limit, unit, waiting, packets)?;
+        waiting = push_unit(alloc, prefix, limit, unit, waiting, packets)?;
     }
     Ok(waiting)
 }
@@ -264,18 +243,20 @@ impl Packetizer for H264Packetizer {
           option_map (λ v. v.items) p.sps ∷ option_map (λ v. v.items) p.pps ∷ [];
     } };
 
-    fn packetize(
+    fn packetize_with_prefix(
         &mut self,
         alloc: Global,
+        prefix: &[u8],
         mtu: usize,
         bytes: &[u8],
     ) -> Result<Vec<Vec<u8>>, PacketError> {
-        let mut packets = Vec::new(alloc);
+        let room = bytes.len() / mtu.max(FUA_HEADER_SIZE + 1) + 1;
+        let mut packets = Vec::with_capacity(alloc, room)?;
         let waiting = WaitingSets {
             sps: set_of(&self.sps),
             pps: set_of(&self.pps),
         };
-        let waiting = push_units(alloc, mtu, bytes, waiting, &mut packets)?;
+        let waiting = push_units(alloc, prefix, mtu, bytes, waiting, &mut packets)?;
         let sps = copy_of_set(alloc, waiting.sps)?;
         let pps = copy_of_set(alloc, waiting.pps)?;
         self.sps = sps;

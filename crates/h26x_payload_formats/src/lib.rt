@@ -4,6 +4,7 @@
 mod codecs;
 mod h264_constants;
 mod h264_laws;
+mod h264_packets;
 mod h264_receiver;
 mod h264_sender;
 mod headers;
@@ -12,6 +13,7 @@ mod layout_constants;
 mod layout_laws;
 mod packetizer;
 mod packets;
+mod prefix;
 mod receiver;
 mod sender;
 

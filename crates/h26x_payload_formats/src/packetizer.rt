@@ -4,7 +4,7 @@ ghost use Rattle.h26x_payload_formats.specs.Packing.{h265_h266_packing};
 ghost use Rattle.std.specs.Prelude.{[], ◌∷◌, ◌≡◌, IfErr, IfOk, None, false, option_map};
 
 use crate::codecs::H265OrH266;
-use crate::layout_constants::MAX_PACKET_SIZE;
+use crate::layout_constants::{FRAGMENT_HEADER_SIZE, MAX_PACKET_SIZE};
 use crate::packets::Form;
 use crate::sender::{Kept, push_units};
 use h26x_payload_units::{copy_of_set, set_of};
@@ -90,9 +90,10 @@ impl<L: H265OrH266> Packetizer for H265OrH266Packetizer<L> {
           option_map (λ v. v.items) p.vps ∷ option_map (λ v. v.items) p.sps ∷ option_map (λ v. v.items) p.pps ∷ [];
     } };
 
-    fn packetize(
+    fn packetize_with_prefix(
         &mut self,
         alloc: Global,
+        prefix: &[u8],
         mtu: usize,
         bytes: &[u8],
     ) -> Result<Vec<Vec<u8>>, PacketError> {
@@ -108,8 +109,9 @@ impl<L: H265OrH266> Packetizer for H265OrH266Packetizer<L> {
             sps: set_of(&self.sps),
             pps: set_of(&self.pps),
         };
-        let mut packets = Vec::new(alloc);
-        let kept = push_units(form, bytes, kept, &mut packets)?;
+        let room = bytes.len() / form.limit.max(FRAGMENT_HEADER_SIZE + 1) + 1;
+        let mut packets = Vec::with_capacity(alloc, room)?;
+        let kept = push_units(form, prefix, bytes, kept, &mut packets)?;
         let number = kept.number;
         let vps = copy_of_set(alloc, kept.vps)?;
         let sps = copy_of_set(alloc, kept.sps)?;

@@ -6,7 +6,8 @@ ghost use Rattle.h26x_payload_formats.specs.Packing.{aggregate, fragment, least,
 ghost use Rattle.h26x_payload_formats.specs.Waiting.{joining, sized_before};
 ghost use Rattle.std.specs.Prelude.{◌≡◌, ◌++◌, ◌≤◌, IfOk, IfSome, OnOk, length, option_map};
 
-use crate::layout_constants::{FRAGMENT_HEADER_SIZE, NALU_HEADER_SIZE};
+use crate::layout_constants::{FRAGMENT_HEADER_SIZE, NALU_HEADER_SIZE, NALU_LENGTH_SIZE};
+use crate::prefix::prefixed;
 use h26x_payload_units::{Layout, donl_size, push_sized};
 use std::alloc::{AllocError, Global};
 
@@ -100,9 +101,10 @@ fn push_before(form: Form, vps: Option<&[u8]>, out: &mut Vec<u8>) -> Result<(), 
     push_dond(form, out)
 }
 
-/// The aggregate of an SPS and a PPS, and of a VPS before them, if there is one.
+/// The aggregate of an SPS and a PPS, and of a VPS before them, if there is one, with these bytes in front.
 pub fn aggregate(
     form: Form,
+    prefix: &[u8],
     number: u16,
     vps: Option<&[u8]>,
     sps: &[u8],
@@ -111,11 +113,12 @@ pub fn aggregate(
     requires vps { IfSome vps (λ s. length s.now ≤ 65535) }
     requires sps { length sps.now ≤ 65535 }
     requires pps { length pps.now ≤ 65535 }
-    ensures { IfOk result (λ p. p.items
-        ≡ aggregate form.layout form.donl number (joining (option_map (λ s. s.now) vps.entry) sps.now pps.now)) }
+    ensures { IfOk result (λ p. p.items ≡ prefix.now
+        ++ aggregate form.layout form.donl number (joining (option_map (λ s. s.now) vps.entry) sps.now pps.now)) }
 {
     let layer = least_layer(form.layout, vps, sps, pps);
-    let mut packet = Vec::new(form.alloc);
+    let sizes = 2 * NALU_LENGTH_SIZE + sps.len() + pps.len();
+    let mut packet = prefixed(form.alloc, prefix, NALU_HEADER_SIZE + sizes)?;
     packet.push(form.layout.aggregate_high(layer))?;
     packet.push(form.layout.aggregate_low(layer, least_tid(vps, sps, pps)))?;
     push_donl(form.donl, number, &mut packet)?;
@@ -126,15 +129,16 @@ pub fn aggregate(
     Ok(packet)
 }
 
-/// A unit alone.
-pub fn single(form: Form, number: u16, unit: &[u8]) -> Result<Vec<u8>, AllocError>
-    ensures { IfOk result (λ p. p.items ≡ single form.donl number unit.now) }
+/// A unit alone, with these bytes in front.
+pub fn single(form: Form, prefix: &[u8], number: u16, unit: &[u8]) -> Result<Vec<u8>, AllocError>
+    ensures { IfOk result (λ p. p.items ≡ prefix.now ++ single form.donl number unit.now) }
 {
+    let mut packet = prefixed(form.alloc, prefix, single_size(form, unit))?;
     if unit.len() <= NALU_HEADER_SIZE {
-        return Ok(Vec::from_slice(form.alloc, unit)?);
+        packet.extend_from_slice(unit)?;
+        return Ok(packet);
     }
     let (header, body) = unit.split_at(NALU_HEADER_SIZE);
-    let mut packet = Vec::with_capacity(form.alloc, single_size(form, unit))?;
     packet.extend_from_slice(header)?;
     push_donl(form.donl, number, &mut packet)?;
     packet.extend_from_slice(body)?;
@@ -149,19 +153,20 @@ pub struct Cut {
     pub low: u8,
 }
 
-/// A fragment of a unit.
+/// A fragment of a unit, with these bytes in front.
 pub fn fragment(
     form: Form,
+    prefix: &[u8],
     cut: Cut,
     first: bool,
     last: bool,
     part: &[u8],
 ) -> Result<Vec<u8>, AllocError>
-    ensures { IfOk result (λ p. p.items ≡ fragment form.layout form.donl cut.number cut.high cut.low first last
-        part.now) }
+    ensures { IfOk result (λ p. p.items ≡ prefix.now
+        ++ fragment form.layout form.donl cut.number cut.high cut.low first last part.now) }
 {
     let before = FRAGMENT_HEADER_SIZE + donl_size(form.donl);
-    let mut packet = Vec::with_capacity(form.alloc, part.len().saturating_add(before))?;
+    let mut packet = prefixed(form.alloc, prefix, part.len().saturating_add(before))?;
     let nalu_type = form.layout.fragment_type();
     packet.push(form.layout.high_with(cut.high, nalu_type))?;
     packet.push(form.layout.low_with(cut.low, nalu_type))?;

@@ -9,6 +9,7 @@ ghost use Rattle.h26x_payload_units.specs.Fragments.{in_fragments};
 ghost use Rattle.h26x_payload_units.specs.Headers.{unit_type};
 ghost use Rattle.h26x_payload_units.specs.Numbers.{donl_size, number_after, numbered};
 ghost use Rattle.h26x_payload_units.specs.Units.{units_of};
+ghost use Rattle.payload_core_base.specs.Packing.{with_prefix};
 ghost use Rattle.payload_core_base.specs.Pieces.{pieces};
 ghost use Rattle.std.specs.List.{flat_map};
 ghost use Rattle.std.specs.Prelude.{[], ◌≡◌, ◌++◌, ◌+◌, ◌-◌, ◌≤◌, IfOk, OnOk, false, length, map, option_map};
@@ -60,6 +61,7 @@ fn size_before(form: Form, vps: Option<&[u8]>) -> usize
 /// the next unit's number.
 fn push_together(
     form: Form,
+    prefix: &[u8],
     number: u16,
     vps: Option<&[u8]>,
     sps: &[u8],
@@ -67,8 +69,8 @@ fn push_together(
     packets: &mut Vec<Vec<u8>>,
 ) -> Result<u16, AllocError>
     ensures packets { OnOk result (map (λ p. p.items) packets.new.items ≡ map (λ p. p.items) packets.old.items
-        ++ flat_map (packets_in form) (numbered number (together (rules_in form) form.limit
-        (joining (option_map (λ s. s.now) vps.entry) sps.now pps.now)))) }
+        ++ with_prefix prefix.now (flat_map (packets_in form) (numbered number (together (rules_in form) form.limit
+        (joining (option_map (λ s. s.now) vps.entry) sps.now pps.now))))) }
     ensures number { IfOk result (λ n. n ≡ number_after number (together (rules_in form) form.limit
         (joining (option_map (λ s. s.now) vps.entry) sps.now pps.now))) }
 {
@@ -82,26 +84,27 @@ fn push_together(
         return Ok(number);
     }
     let count = if vps.is_some() { 3 } else { 2 };
-    packets.push(aggregate(form, number, vps, sps, pps)?)?;
+    packets.push(aggregate(form, prefix, number, vps, sps, pps)?)?;
     Ok(number.wrapping_add(count))
 }
 
 /// Sends the later fragments of a unit.
 fn push_later_fragments(
     form: Form,
+    prefix: &[u8],
     cut: Cut,
     rest: &[u8],
     packets: &mut Vec<Vec<u8>>,
 ) -> Result<(), AllocError>
     requires { 4 ≤ form.limit }
     ensures { OnOk result (map (λ p. p.items) packets.new.items ≡ map (λ p. p.items) packets.old.items
-        ++ in_fragments (fragment form.layout form.donl cut.number cut.high cut.low) false
-        (pieces (form.limit - 3) rest.now)) }
+        ++ with_prefix prefix.now (in_fragments (fragment form.layout form.donl cut.number cut.high cut.low) false
+        (pieces (form.limit - 3) rest.now))) }
 {
     let mut left = rest.len();
     for part in rest.chunks(form.limit - FRAGMENT_HEADER_SIZE) {
         left -= part.len();
-        packets.push(fragment(form, cut, false, left == 0, part)?)?;
+        packets.push(fragment(form, prefix, cut, false, left == 0, part)?)?;
     }
     Ok(())
 }
@@ -109,13 +112,14 @@ fn push_later_fragments(
 /// Sends the fragments of a unit.
 fn push_fragments(
     form: Form,
+    prefix: &[u8],
     number: u16,
     unit: &[u8],
     packets: &mut Vec<Vec<u8>>,
 ) -> Result<(), AllocError>
     requires { 4 + donl_size form.donl ≤ form.limit }
     ensures { OnOk result (map (λ p. p.items) packets.new.items ≡ map (λ p. p.items) packets.old.items
-        ++ fragments_of form.layout form.donl form.limit number unit.now) }
+        ++ with_prefix prefix.now (fragments_of form.layout form.donl form.limit number unit.now)) }
 {
     let Some((high, rest)) = unit.split_first() else {
         return Ok(());
@@ -130,29 +134,31 @@ fn push_fragments(
     };
     let room = form.limit - FRAGMENT_HEADER_SIZE - donl_size(form.donl);
     let (part, rest) = body.split_at(room.min(body.len()));
-    packets.push(fragment(form, cut, true, rest.is_empty(), part)?)?;
-    push_later_fragments(form, cut, rest, packets)
+    packets.push(fragment(form, prefix, cut, true, rest.is_empty(), part)?)?;
+    push_later_fragments(form, prefix, cut, rest, packets)
 }
 
 /// Sends a unit by itself, if it can leave; the number of the next unit.
 fn push_alone(
     form: Form,
+    prefix: &[u8],
     number: u16,
     unit: &[u8],
     packets: &mut Vec<Vec<u8>>,
 ) -> Result<u16, AllocError>
     ensures packets { OnOk result (map (λ p. p.items) packets.new.items ≡ map (λ p. p.items) packets.old.items
-        ++ flat_map (packets_in form) (numbered number (alone (rules_in form) form.limit unit.now))) }
+        ++ with_prefix prefix.now
+        (flat_map (packets_in form) (numbered number (alone (rules_in form) form.limit unit.now)))) }
     ensures number { IfOk result (λ n. n ≡ number_after number (alone (rules_in form) form.limit unit.now)) }
 {
     if single_size(form, unit) <= form.limit {
-        packets.push(single(form, number, unit)?)?;
+        packets.push(single(form, prefix, number, unit)?)?;
         return Ok(number.wrapping_add(1));
     }
     if form.limit <= FRAGMENT_HEADER_SIZE + donl_size(form.donl) {
         return Ok(number);
     }
-    push_fragments(form, number, unit, packets)?;
+    push_fragments(form, prefix, number, unit, packets)?;
     Ok(number.wrapping_add(1))
 }
 
@@ -160,29 +166,30 @@ fn push_alone(
 /// state afterwards.
 fn push_leaving<'a>(
     form: Form,
+    prefix: &[u8],
     unit: &[u8],
     kept: Kept<'a>,
     packets: &mut Vec<Vec<u8>>,
 ) -> Result<Kept<'a>, AllocError>
     ensures packets { OnOk result (map (λ p. p.items) packets.new.items ≡ map (λ p. p.items) packets.old.items
-        ++ flat_map (packets_in form) (numbered kept.entry.number (departing (rules_in form) form.limit Leaves
-        (waiting_in kept.entry) unit.now))) }
+        ++ with_prefix prefix.now (flat_map (packets_in form) (numbered kept.entry.number
+        (departing (rules_in form) form.limit Leaves (waiting_in kept.entry) unit.now)))) }
     ensures number { IfOk result (λ k. k.number ≡ number_after kept.entry.number (departing
         (rules_in form) form.limit Leaves (waiting_in kept.entry) unit.now)) }
     ensures waiting { IfOk result (λ k. waiting_in k ≡ waiting_behind (rules_in form) Leaves
         (waiting_in kept.entry) unit.now) }
 {
     if form.layout.needs_vps() && kept.vps.is_none() {
-        return push_without(form, unit, kept, packets);
+        return push_without(form, prefix, unit, kept, packets);
     }
     let Some(sps) = kept.sps else {
-        return push_without(form, unit, kept, packets);
+        return push_without(form, prefix, unit, kept, packets);
     };
     let Some(pps) = kept.pps else {
-        return push_without(form, unit, kept, packets);
+        return push_without(form, prefix, unit, kept, packets);
     };
-    let number = push_together(form, kept.number, kept.vps, sps, pps, packets)?;
-    let number = push_alone(form, number, unit, packets)?;
+    let number = push_together(form, prefix, kept.number, kept.vps, sps, pps, packets)?;
+    let number = push_alone(form, prefix, number, unit, packets)?;
     Ok(Kept {
         number,
         vps: None,
@@ -194,17 +201,19 @@ fn push_leaving<'a>(
 /// Sends a unit that leaves, and no parameter sets; what is kept then.
 fn push_without<'a>(
     form: Form,
+    prefix: &[u8],
     unit: &[u8],
     kept: Kept<'a>,
     packets: &mut Vec<Vec<u8>>,
 ) -> Result<Kept<'a>, AllocError>
     ensures packets { OnOk result (map (λ p. p.items) packets.new.items ≡ map (λ p. p.items) packets.old.items
-        ++ flat_map (packets_in form) (numbered kept.entry.number (alone (rules_in form) form.limit unit.now))) }
+        ++ with_prefix prefix.now
+        (flat_map (packets_in form) (numbered kept.entry.number (alone (rules_in form) form.limit unit.now)))) }
     ensures number { IfOk result (λ k. k.number ≡ number_after kept.entry.number (alone
         (rules_in form) form.limit unit.now)) }
     ensures waiting { IfOk result (λ k. waiting_in k ≡ waiting_in kept.entry) }
 {
-    let number = push_alone(form, kept.number, unit, packets)?;
+    let number = push_alone(form, prefix, kept.number, unit, packets)?;
     Ok(Kept {
         number,
         vps: kept.vps,
@@ -216,13 +225,15 @@ fn push_without<'a>(
 /// Sends what leaves with a unit; what is kept then.
 fn push_unit<'a>(
     form: Form,
+    prefix: &[u8],
     unit: &'a [u8],
     kept: Kept<'a>,
     packets: &mut Vec<Vec<u8>>,
 ) -> Result<Kept<'a>, AllocError>
     ensures packets { OnOk result (map (λ p. p.items) packets.new.items ≡ map (λ p. p.items) packets.old.items
-        ++ flat_map (packets_in form) (numbered kept.entry.number (departing (rules_in form) form.limit
-        (role_by form.layout (unit_type form.layout unit.now)) (waiting_in kept.entry) unit.now))) }
+        ++ with_prefix prefix.now (flat_map (packets_in form) (numbered kept.entry.number
+        (departing (rules_in form) form.limit (role_by form.layout (unit_type form.layout unit.now))
+        (waiting_in kept.entry) unit.now)))) }
     ensures number { IfOk result (λ k. k.number ≡ number_after kept.entry.number (departing (rules_in form) form.limit
         (role_by form.layout (unit_type form.layout unit.now)) (waiting_in kept.entry) unit.now)) }
     ensures waiting { IfOk result (λ k. waiting_in k ≡ waiting_behind (rules_in form)
@@ -248,24 +259,25 @@ fn push_unit<'a>(
             sps: kept.sps,
             pps: Some(unit),
         }),
-        UnitKind::Other => push_leaving(form, unit, kept, packets),
+        UnitKind::Other => push_leaving(form, prefix, unit, kept, packets),
     }
 }
 
-/// Sends what leaves of a sample's units; what is kept then.
+/// Sends what leaves of a sample's units, each packet with these bytes in front; what is kept then.
 ///
 /// # Errors
 ///
 /// `AllocError` if memory runs out. Some of the packets may then follow the old ones.
 pub fn push_units<'a>(
     form: Form,
+    prefix: &[u8],
     sample: &'a [u8],
     kept: Kept<'a>,
     packets: &mut Vec<Vec<u8>>,
 ) -> Result<Kept<'a>, AllocError>
     ensures packets { OnOk result (map (λ p. p.items) packets.new.items ≡ map (λ p. p.items) packets.old.items
-        ++ flat_map (packets_in form) (numbered kept.entry.number (departures (rules_in form) form.limit
-        (waiting_in kept.entry) (units_of sample.now)))) }
+        ++ with_prefix prefix.now (flat_map (packets_in form) (numbered kept.entry.number
+        (departures (rules_in form) form.limit (waiting_in kept.entry) (units_of sample.now))))) }
     ensures number { IfOk result (λ k. k.number ≡ number_after kept.entry.number (departures
         (rules_in form) form.limit (waiting_in kept.entry) (units_of sample.now))) }
     ensures waiting { IfOk result (λ k. waiting_in k ≡ waiting_after (rules_in form) (waiting_in kept.entry)
@@ -273,7 +285,7 @@ pub fn push_units<'a>(
 {
     let mut kept = kept;
     for unit in nal_units(sample) {
-        kept = push_unit(form, unit, kept, packets)?;
+        kept = push_unit(form, prefix, unit, kept, packets)?;
     }
     Ok(kept)
 }

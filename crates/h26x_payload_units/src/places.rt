@@ -6,13 +6,13 @@ ghost use Rattle.h26x_payload_units.specs.Units.{units_behind, without_zeros};
 ghost use Rattle.h26x_payload_units.specs.Cut.{with_unit};
 
 /// How many places are looked at together.
-const BLOCK: usize = 32;
+const BLOCK: usize = 128;
 
 /// Whether no two zeros are adjacent from this position on, so that no start code begins in the
 /// block there.
 fn is_free(text: &[u8], start: usize) -> bool
-    requires { start + 33 ≤ length text.now }
-    ensures { IsTrue result → HasNoCodeBetween text.now start (start + 32) }
+    requires { start + 129 ≤ length text.now }
+    ensures { IsTrue result → HasNoCodeBetween text.now start (start + 128) }
 {
     let first = &text[start..start + BLOCK];
     let second = &text[start + 1..start + BLOCK + 1];

@@ -2,3 +2,5 @@ pub mod AsBox
 pub mod Bare
 pub mod Cutting
 pub mod Named
+pub mod Telling
+pub mod Unread

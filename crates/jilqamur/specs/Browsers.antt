@@ -1,7 +1,8 @@
 -- Results of the calls that exchange SDP with a browser.
 use Rattle.std.specs.Prelude.{ℕ, ◌≡◌, ◌⊎◌, IsTrue, false, List}
 use Rattle.rtp_media_browsers.specs.Calls.{AnswerPasses, IsRefused, OfferPasses}
-use Rattle.rtp_media_browsers.specs.Refusals.{answer_refusal, offer_refusal}
+use Rattle.rtp_media_browsers.specs.InCommon.{AreInCommon, RefusesInCommon}
+use Rattle.rtp_media_browsers.specs.Refusals.{answer_refusal}
 use Rattle.rtp_media_browsers.specs.Tidied.{tidied}
 use Rattle.rtp_media_browsers.specs.Wanted.{wanted_of}
 use Rattle.rtp_media_browsers.specs.declared.error.BrowserError.{BrowserError}
@@ -13,6 +14,7 @@ use Rattle.rtp_media_exchange.specs.Refusals.{RefusesAccept, RefusesAnswer}
 use Rattle.rtp_media_exchange.specs.declared.errors.ExchangeError.{ExchangeError}
 use Rattle.rtp_media_sections.specs.Sections.{Wanted, are_sound}
 use Rattle.sdp_formats_data.specs.declared.session.Sdp.{Sdp}
+use Rattle.sdp_formats_rows.specs.Rows.{Row}
 use Rattle.std.specs.Prelude.{Option}
 use Rattle.jilqamur.specs.Codes.{ok, memory, text_unreadable, rest_unread, mid_not_kept, mid_twice}
 use Rattle.jilqamur.specs.Codes.{not_corresponding, section_rejected, several_bundles, outside_bundle}
@@ -44,27 +46,38 @@ pub record IsHeldBack (text : List ℕ) (refusal : Sdp → Option BrowserError) 
   pub refused : IsRefused text refusal error
   pub number : result ≡ browser_code error
 
--- What the end is given of a browser's offer, the sections it should answer with, and the plan remembered afterwards.
-pub record IsHanded (plan : Plan) (wishes : List Wish) (offer : List ℕ) (planned : Plan) (handed : List ℕ)
-    (sections : List Wanted) : Type 0 where
-  pub passes : OfferPasses (tidied offer) wishes plan planned handed
-  pub wanted : sections ≡ wanted_of planned wishes
+-- What an end with these rows is given of a browser's offer, the sections it should answer with, and the plan
+-- remembered afterwards: by the wishes, with those rejected whose sections have no row in common with it (RFC 3264 6).
+pub record IsHanded (plan : Plan) (rows : List Row) (wishes : List Wish) (offer : List ℕ) (planned : Plan)
+    (handed : List ℕ) (sections : List Wanted) : Type 0 where
+  pub left : List Wish
+  pub in_common : AreInCommon (tidied offer) plan rows wishes left
+  pub passes : OfferPasses (tidied offer) left plan planned handed
+  pub wanted : sections ≡ wanted_of planned left
+
+-- A browser's offer is refused before it reaches the end.
+pub record IsOfferHeldBack (plan : Plan) (rows : List Row) (wishes : List Wish) (offer : List ℕ) (result : ℕ)
+    : Type 0 where
+  pub error : BrowserError
+  pub refused : RefusesInCommon (tidied offer) plan rows wishes error
+  pub number : result ≡ browser_code error
 
 -- The end answers it.
 pub record AnswersBrowser (e : EndState) (plan : Plan) (wishes : List Wish) (offer text : List ℕ) (planned : Plan)
     (after : EndState) : Type 0 where
   pub handed : List ℕ
   pub sections : List Wanted
-  pub is_handed : IsHanded plan wishes offer planned handed sections
+  pub is_handed : IsHanded plan e.exchange.config.rows wishes offer planned handed sections
   pub sound : IsTrue (are_sound sections)
   pub answered : Answered e handed sections text after
 
 -- The RTX pairs of a wish don't fit its SSRCs.
-pub record IsUnsoundWish (plan : Plan) (wishes : List Wish) (offer : List ℕ) (result : ℕ) : Type 0 where
+pub record IsUnsoundWish (e : EndState) (plan : Plan) (wishes : List Wish) (offer : List ℕ) (result : ℕ)
+    : Type 0 where
   pub handed : List ℕ
   pub sections : List Wanted
   pub planned : Plan
-  pub is_handed : IsHanded plan wishes offer planned handed sections
+  pub is_handed : IsHanded plan e.exchange.config.rows wishes offer planned handed sections
   pub unsound : are_sound sections ≡ false
   pub number : result ≡ out_of_range
 
@@ -74,15 +87,15 @@ pub record EndRefusesOffer (e : EndState) (plan : Plan) (wishes : List Wish) (of
   pub handed : List ℕ
   pub sections : List Wanted
   pub planned : Plan
-  pub is_handed : IsHanded plan wishes offer planned handed sections
+  pub is_handed : IsHanded plan e.exchange.config.rows wishes offer planned handed sections
   pub error : ExchangeError
   pub refuses : RefusesAnswer e.exchange handed sections error
   pub number : result ≡ exchange_code error
 
 -- Why a browser's offer isn't answered.
 abbrev pub IsUnanswered : EndState → Plan → List Wish → List ℕ → ℕ → Type 0
-IsUnanswered e plan wishes offer result = IsHeldBack (tidied offer) (offer_refusal (tidied offer) plan wishes) result
-    ⊎ (IsUnsoundWish plan wishes offer result ⊎ EndRefusesOffer e plan wishes offer result)
+IsUnanswered e plan wishes offer result = IsOfferHeldBack plan e.exchange.config.rows wishes offer result
+    ⊎ (IsUnsoundWish e plan wishes offer result ⊎ EndRefusesOffer e plan wishes offer result)
 
 -- The result of answering a browser's offer.
 abbrev pub AnswersOffered : EndState → Plan → List Wish → List ℕ → ℕ → List ℕ → Plan → EndState → Type 0

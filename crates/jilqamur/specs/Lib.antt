@@ -8,6 +8,7 @@ pub mod Drafts
 pub mod Dressing
 pub mod Exchanges
 pub mod Faults
+pub mod FaultyLines
 pub mod Fetched
 pub mod Formats
 pub mod Forwarders

@@ -9,7 +9,7 @@ ghost use Rattle.jilqamur.specs.Answers.{AtEnd, WithText};
 ghost use Rattle.jilqamur.specs.Browsers.{AcceptsBrowser, AnswersBrowser, AnswersOffered, AnswersTaken};
 ghost use Rattle.jilqamur.specs.Browsers.{IsHanded, IsUnanswered, IsUntaken, browser_code};
 ghost use Rattle.jilqamur.specs.HeldEnds.{behind_answer, behind_offer};
-ghost use Rattle.rtp_media_browsers.specs.Calls.{RefusesOffer};
+ghost use Rattle.rtp_media_browsers.specs.InCommon.{RefusesInCommon};
 ghost use Rattle.rtp_media_browsers.specs.Tidied.{tidied};
 ghost use Rattle.jilqamur.specs.Held.{end_in};
 
@@ -18,9 +18,12 @@ use crate::copying::text_in;
 use crate::exchanging::exchange_code;
 use crate::handle::EndHandle;
 use crate::object::Object;
-use rtp_media_browsers::{BrowserError, Plan, Wish, answer_for_end, for_end, sections_for};
+use rtp_media_browsers::{
+    BrowserError, Plan, Wish, answer_for_end, for_end, sections_for, wishes_in_common,
+};
 use rtp_media_ends::End;
 use rtp_media_sections::{SectionSpec, are_sound};
+use sdp_formats_rounds::CodecConfig;
 use std::alloc::Global;
 
 /// The number of a refusal of a browser's text, or of one for a browser.
@@ -46,24 +49,27 @@ pub(crate) fn browser_code(error: &BrowserError) -> u32
     }
 }
 
-/// What the end is handed of a browser's offer, and the sections of its answer.
+/// What an end of this config is handed of a browser's offer, and the sections of its answer. Sections without a row in
+/// common are rejected alone.
 ///
 /// # Errors
 ///
 /// Why the offer isn't passed on.
-#[tactic(auto, using(rtp_media_browsers::proofs::Refused::want_of_memory))]
 fn handed(
     alloc: Global,
     plan: &mut Plan,
+    config: &CodecConfig,
     offer: &str,
-    wishes: &[Wish],
+    wishes: Vec<Wish>,
 ) -> Result<(String, Vec<SectionSpec>), BrowserError>
     ensures handed { IfOk result
-        (λ r. IsHanded plan.old wishes.now offer.now plan.new (string_bytes r.0) r.1.items) }
-    ensures refused { IfErr result (λ e. RefusesOffer (tidied offer.now) plan.old wishes.now e) }
+        (λ r. IsHanded plan.old config.now.rows wishes.items offer.now plan.new (string_bytes r.0) r.1.items) }
+    ensures refused { IfErr result
+        (λ e. RefusesInCommon (tidied offer.now) plan.old config.now.rows wishes.items e) }
 {
-    let text = for_end(alloc, plan, offer, wishes)?;
-    let sections = sections_for(alloc, plan, wishes)?;
+    let wishes = wishes_in_common(alloc, plan, config, offer, wishes)?;
+    let text = for_end(alloc, plan, offer, wishes.as_slice())?;
+    let sections = sections_for(alloc, plan, wishes.as_slice())?;
     Ok((text, sections))
 }
 
@@ -77,14 +83,14 @@ fn answered(
     end: &mut End,
     plan: &mut Plan,
     offer: &str,
-    wishes: &[Wish],
+    wishes: Vec<Wish>,
 ) -> Result<String, u32>
     ensures answered { IfOk result
-        (λ text. AnswersBrowser end.old plan.old wishes.now offer.now (string_bytes text) plan.new end.new) }
-    ensures refused { IfErr result (λ code. IsUnanswered end.old plan.old wishes.now offer.now code) }
+        (λ text. AnswersBrowser end.old plan.old wishes.items offer.now (string_bytes text) plan.new end.new) }
+    ensures refused { IfErr result (λ code. IsUnanswered end.old plan.old wishes.items offer.now code) }
     ensures unchanged { OnErr result (end.new ≡ end.old) }
 {
-    let (text, sections) = match handed(alloc, plan, offer, wishes) {
+    let (text, sections) = match handed(alloc, plan, end.config(), offer, wishes) {
         Ok(handed) => handed,
         Err(error) => return Err(browser_code(&error)),
     };
@@ -97,13 +103,13 @@ fn answered(
     }
 }
 
-/// Answers a browser's offer by the wishes, which are used up, and returns `OK`: the text of the
-/// end's answer is left to be fetched, and the plan is updated. `NOT_TEXT` for bytes that aren't
-/// UTF-8, `NOT_MADE` without an end; otherwise the first that applies of `TEXT_UNREADABLE`,
-/// `REST_UNREAD`, `MID_NOT_KEPT`, `MID_TWICE`, `SEVERAL_BUNDLES`, `OUTSIDE_BUNDLE`, `NOTHING_LEFT`
-/// and `KEYS_ALONE`; otherwise `OUT_OF_RANGE` if a wish's RTX pairs don't fit its SSRCs; otherwise
-/// what the end refuses, as in `answer`; or `MEMORY`. Then end, text and plan don't change.
-#[tactic(auto, using(crate::proofs::Bare::want_of_text))]
+/// Answers a browser's offer by the wishes, which are used up, and returns `OK`: the text of the end's answer is left
+/// to be fetched, and the plan is updated. A section without a row in common is rejected alone (RFC 3264 6). `NOT_TEXT`
+/// for bytes that aren't UTF-8, `NOT_MADE` without an end; otherwise the first that applies of `TEXT_UNREADABLE`,
+/// `REST_UNREAD`, `MID_NOT_KEPT`, `MID_TWICE`, `SEVERAL_BUNDLES`, `OUTSIDE_BUNDLE`, `NOTHING_LEFT` and `KEYS_ALONE`;
+/// otherwise `OUT_OF_RANGE` if a wish's RTX pairs don't fit its SSRCs; otherwise what the end refuses, as in `answer`;
+/// or `MEMORY`. Then end, text and plan don't change.
+#[tactic(auto, using(crate::proofs::Bare::want_of_offer))]
 #[unsafe(no_mangle)]
 pub extern "C" fn jilqamur_end_answer_browser(
     alloc: Global,
@@ -134,7 +140,7 @@ pub extern "C" fn jilqamur_end_answer_browser(
     let Ok(mut plan) = held.plan.clone(alloc) else {
         return codes::MEMORY;
     };
-    match answered(alloc, end, &mut plan, offer, wishes.as_slice()) {
+    match answered(alloc, end, &mut plan, offer, wishes) {
         Ok(text) => {
             held.plan = plan;
             held.text = text.into_bytes();

@@ -1,7 +1,9 @@
 //! A receiving stream by codec.
 
-ghost use Rattle.std.specs.Prelude.{◌≡◌, ◌≢◌, IfOk, IfErr, OnOk};
+ghost use Rattle.std.specs.Prelude.{◌≡◌, ◌≢◌, IfOk, IfErr, OnErr, OnOk};
 ghost use Rattle.payload_core_buffer.specs.Buffered.{holding_of};
+ghost use Rattle.rtp_media_streams.specs.Receiving.{arrived, taken_number, with_stream};
+ghost use Rattle.rtp_wire.specs.Values.{absent};
 ghost use Rattle.jilqamur.specs.Codes.{ok};
 ghost use Rattle.jilqamur.specs.Formats.{inbox_outcome};
 ghost use Rattle.jilqamur.specs.Inboxes.{new_inbox, Takes, Polls, Drains};
@@ -10,9 +12,9 @@ use crate::answers::poll_code;
 use crate::codes;
 use crate::format::{WireFormat, read_format};
 use payload_core_buffer::{Unit, may_hold};
-use rtp_media_streams::{Arrival, PayloadTypes, ReceivingStream};
-use rtp_wire::{ExtensionMap, ExtensionValues, Pt, Ssrc};
-use std::alloc::Global;
+use rtp_media_streams::{PayloadTypes, Placed, ReceivingStream};
+use rtp_wire::{ExtensionMap, Pt, SeqNo, Ssrc};
+use std::alloc::{AllocError, Global};
 use std::marker::Model;
 
 /// A receiving stream, and the unit that a poll left last.
@@ -24,6 +26,8 @@ pub struct Inbox {
 
 impl Model for Inbox {
     ghost use Rattle.jilqamur.specs.Inboxes.{InboxState};
+    ghost use Rattle.std.specs.Prelude.{◌≡◌};
+    ghost use Rattle.rtp_wire.specs.Maps.{empty_map};
     ghost use Rattle.rtp_wire.specs.Replay.{window_code};
     ghost use Rattle.std.specs.Coded.{codes};
 
@@ -32,6 +36,8 @@ impl Model for Inbox {
     ghost coded = { Prim.hlevel (codes, window_code) };
 
     ghost view = { λ p. record { stream = p.stream; unit = p.unit } };
+
+    ghost invariant = { λ p. p.stream.map ≡ empty_map };
 }
 
 impl Inbox {
@@ -71,6 +77,30 @@ impl Inbox {
         Ok(Inbox { stream, unit: None })
     }
 
+    /// A payload without a header, so that nothing of it is read as values of header extensions.
+    fn take(
+        &mut self,
+        low: u16,
+        time: u32,
+        marker: bool,
+        payload: &[u8],
+    ) -> Result<Option<SeqNo>, AllocError>
+        ensures answer { IfOk result (λ taken. taken ≡ taken_number self.old.stream.stream low) }
+        ensures after { OnOk result (self.new.stream ≡ with_stream self.old.stream
+            (arrived self.old.stream.stream low time marker absent payload.now)) }
+        ensures unchanged { OnErr result (self.new.stream ≡ self.old.stream) }
+        ensures unit { self.new.unit ≡ self.old.unit }
+    {
+        let placed = Placed {
+            low,
+            time,
+            marker,
+            start: 0,
+            end: payload.len(),
+        };
+        self.stream.receive(&placed, payload)
+    }
+
     /// Takes a packet by the low 16 bits of its number, its timestamp, marker bit and payload
     /// (maybe empty), and returns `OK`: `number` is its widened number, which is recorded.
     /// `REFUSED` if it came before, or is 1,024 or more below the greatest; or `MEMORY`; then
@@ -86,15 +116,7 @@ impl Inbox {
         ensures answer { Takes self.old low time marker payload.now result number.new self.new }
         ensures number { result ≢ ok → number.new ≡ number.old }
     {
-        let arrival = Arrival {
-            low,
-            time,
-            marker,
-            ext_vals: ExtensionValues::absent(),
-            start: 0,
-            end: payload.len(),
-        };
-        match self.stream.receive(&arrival, payload) {
+        match self.take(low, time, marker, payload) {
             Ok(Some(taken)) => {
                 *number = taken.get();
                 codes::OK

@@ -1,4 +1,4 @@
-//! Headers, replay windows, payload formats, streams and ends for C programs, as `include/jilqamur.h` declares them.
+//! Headers, replay windows, payload formats, streams and ends for C programs, as `jilqamur.h` declares them.
 #![tactic(auto)]
 
 mod agreed;
@@ -14,6 +14,7 @@ mod dressing;
 mod ends;
 mod exchanging;
 mod faults;
+mod faulty_lines;
 mod fetch;
 mod format;
 mod forwarders;

@@ -1,4 +1,5 @@
 pub mod EbmlLemmas
 pub mod IvfLemmas
 pub mod LawLemmas
+pub mod MkvLemmas
 pub mod OpusLemmas

@@ -14,6 +14,10 @@ u64_be n = to_be_bytes w64 n
 unfoldable pub element : List ℕ → List ℕ → List ℕ
 element id bytes = id ++ (u64_be (2 ^ 56 + length bytes) ++ bytes)
 
+-- What is in front of the data of an element.
+abbrev pub element_front : List ℕ → ℕ → List ℕ
+element_front id len = id ++ u64_be (2 ^ 56 + len)
+
 -- An element that is an unsigned integer (RFC 8794 7.2).
 abbrev pub uint : List ℕ → ℕ → List ℕ
 uint id n = element id (u64_be n)

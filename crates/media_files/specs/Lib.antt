@@ -7,6 +7,7 @@ pub mod Ogg
 pub mod OggViews
 pub mod Opus
 pub mod OpusViews
+pub mod PagesViews
 pub mod Superframe
 pub mod Units
 pub mod Wav

@@ -1,7 +1,7 @@
 -- Matroska files (RFC 9559).
 use Rattle.std.specs.Prelude.{ℕ, ◌+◌, ◌*◌, ◌/◌, ◌%◌, ◌==◌, ◌<◌, ◌≤◌, ◌⊎◌, Bool, List, [], ◌∷◌, ◌++◌, length, codes}
 use Rattle.std.specs.Prelude.{if◌then◌else◌}
-use Rattle.media_files.specs.Ebml.{u16_be, element, uint, double}
+use Rattle.media_files.specs.Ebml.{u16_be, element, element_front, uint, double}
 use Rattle.media_files.specs.declared.mkv_tracks.MkvCodec.{MkvCodec}
 use Rattle.media_files.specs.declared.mkv_tracks.MkvCodec.TheVariants.{Vp8, Vp9, Av1, Avc, Hevc, Opus, Acm}
 use Rattle.media_files.specs.declared.mkv_tracks.MkvMedia.{MkvMedia}
@@ -120,6 +120,17 @@ segment duration tracks blocks = info duration
 unfoldable pub mkv_file : ℕ → List Track → List Block → List ℕ
 mkv_file duration tracks blocks =
     ebml_header ++ element (0x18 ∷ (0x53 ∷ (0x80 ∷ (0x67 ∷ [])))) (segment duration tracks blocks)
+
+-- What a segment has in front of its clusters.
+unfoldable pub segment_front : ℕ → List Track → List ℕ
+segment_front duration tracks =
+    info duration ++ element (0x16 ∷ (0x54 ∷ (0xae ∷ (0x6b ∷ [])))) (track_entries 1 tracks)
+
+-- What a file has in front of clusters of this many bytes.
+unfoldable pub mkv_front : ℕ → List Track → ℕ → List ℕ
+mkv_front duration tracks len =
+    ebml_header ++ (element_front (0x18 ∷ (0x53 ∷ (0x80 ∷ (0x67 ∷ [])))) (length (segment_front duration tracks) + len)
+    ++ segment_front duration tracks)
 
 -- More than 126 tracks, a duration that a double can't say exactly, or a segment that eight bytes can't say the length
 -- of.

@@ -9,8 +9,11 @@ use std::alloc::{AllocError, Global};
 // A frame of type 15, of good quality and with no speech (RFC 4867 5.3).
 const NO_DATA: u8 = 0x7c;
 
-/// Writes frames, or NO_DATA for one that was lost.
-fn push_stored(frames: Option<&[u8]>, out: &mut Vec<u8>) -> Result<(), AllocError>
+/// Writes frames as a file stores them, or NO_DATA for one that was lost (RFC 4867 5.3).
+///
+/// # Errors
+/// There is no memory for them.
+pub fn push_amr_wb_frames(frames: Option<&[u8]>, out: &mut Vec<u8>) -> Result<(), AllocError>
     ensures { OnOk result (out.new.items ≡ out.old.items ++ stored (item frames.entry)) }
 {
     match frames {
@@ -25,16 +28,19 @@ pub fn amr_wb_file(alloc: Global, frames: &[Option<&[u8]>]) -> Result<Vec<u8>, A
     ensures { IfOk result (λ v. v.items ≡ amr_wb_file (map item frames.now)) }
 {
     let mut out = Vec::new(alloc);
-    push_magic(&mut out)?;
+    push_amr_wb_front(&mut out)?;
     for item in frames {
-        push_stored(*item, &mut out)?;
+        push_amr_wb_frames(*item, &mut out)?;
     }
     Ok(out)
 }
 
-/// Writes the magic number.
+/// Writes the magic number that a file of one channel begins with (RFC 4867 5.1).
+///
+/// # Errors
+/// There is no memory for it.
 #[tactic(auto, unfolding(crate::specs::AmrWb::magic))]
-fn push_magic(out: &mut Vec<u8>) -> Result<(), AllocError>
+pub fn push_amr_wb_front(out: &mut Vec<u8>) -> Result<(), AllocError>
     ensures { OnOk result (out.new.items ≡ out.old.items ++ magic) }
 {
     out.extend_from_slice(b"#!AMR-WB\n")

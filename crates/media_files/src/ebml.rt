@@ -1,7 +1,7 @@
 //! Elements of EBML (RFC 8794).
 
 ghost use Rattle.std.specs.Prelude.{◌≡◌, ◌++◌, ◌<◌, ◌^◌, OnOk};
-ghost use Rattle.media_files.specs.Ebml.{double, double_bits, element, u16_be, u64_be, uint};
+ghost use Rattle.media_files.specs.Ebml.{double, double_bits, element, element_front, u16_be, u64_be, uint};
 
 use std::alloc::AllocError;
 
@@ -22,6 +22,15 @@ fn push_u64_be(number: u64, out: &mut Vec<u8>) -> Result<(), AllocError>
     ensures { OnOk result (out.new.items ≡ out.old.items ++ u64_be number) }
 {
     out.extend_from_slice(&number.to_be_bytes())
+}
+
+/// Writes the ID of an element, and the length of its data.
+pub fn push_element_front(id: &[u8], len: u64, out: &mut Vec<u8>) -> Result<(), AllocError>
+    requires { len < 2 ^ 56 }
+    ensures { OnOk result (out.new.items ≡ out.old.items ++ element_front id.now len) }
+{
+    out.extend_from_slice(id)?;
+    push_u64_be(72057594037927936 + len, out)
 }
 
 /// Writes an element.

@@ -97,7 +97,7 @@ fn push_clock(rate: u32, ticks: u32, out: &mut Vec<u8>) -> Result<(), AllocError
 
 /// Writes the header of a file.
 #[tactic(auto, unfolding(crate::specs::Ivf::ivf_header))]
-fn push_header(
+pub(crate) fn push_header(
     codec: IvfCodec,
     size: (u16, u16),
     rate: u32,
@@ -136,7 +136,7 @@ fn push_framed(codec: IvfCodec, unit: &[u8], out: &mut Vec<u8>) -> Result<(), Re
 }
 
 /// Writes a frame.
-fn push_frame(
+pub(crate) fn push_frame(
     codec: IvfCodec,
     time: u64,
     unit: &[u8],
@@ -158,7 +158,7 @@ fn push_frame(
 
 /// The time nearest to the previous one with these low 32 bits, but never below 0.
 #[tactic(auto, unfolding(crate::specs::Ivf::nearest_time))]
-fn nearest_time(previous: u64, low: u32) -> u64
+pub(crate) fn nearest_time(previous: u64, low: u32) -> u64
     requires { previous + 2147483648 < 2 ^ 64 }
     ensures value { result ≡ nearest_time previous low }
     ensures near { result < previous + 2147483648 }
@@ -197,7 +197,7 @@ fn last_time(first: u64, frames: &[TimedUnit<'_>]) -> u64
 
 /// How many ticks this many frames last, of which the last one begins so many after the first.
 #[tactic(auto, unfolding(crate::specs::Ivf::ticks_of))]
-fn ticks_of(count: u32, span: u64) -> u32
+pub(crate) fn ticks_of(count: u32, span: u64) -> u32
     ensures { result ≡ ticks_of count span }
 {
     if count < 2 {

@@ -14,11 +14,11 @@ use std::alloc::{AllocError, Global};
 // The IDs of elements that hold others.
 const HEADER: [u8; 4] = [0x1a, 0x45, 0xdf, 0xa3];
 
-const SEGMENT: [u8; 4] = [0x18, 0x53, 0x80, 0x67];
+pub(crate) const SEGMENT: [u8; 4] = [0x18, 0x53, 0x80, 0x67];
 
 const INFO: [u8; 4] = [0x15, 0x49, 0xa9, 0x66];
 
-const TRACKS: [u8; 4] = [0x16, 0x54, 0xae, 0x6b];
+pub(crate) const TRACKS: [u8; 4] = [0x16, 0x54, 0xae, 0x6b];
 
 const CLUSTER: [u8; 4] = [0x1f, 0x43, 0xb6, 0x75];
 
@@ -58,7 +58,7 @@ fn push_document_type(out: &mut Vec<u8>) -> Result<(), AllocError>
 
 /// Writes the header.
 #[tactic(auto, unfolding(crate::specs::Mkv::ebml_header))]
-fn push_header(alloc: Global, out: &mut Vec<u8>) -> Result<(), AllocError>
+pub(crate) fn push_header(alloc: Global, out: &mut Vec<u8>) -> Result<(), AllocError>
     ensures { OnOk result (out.new.items ≡ out.old.items ++ ebml_header) }
 {
     let mut inner = Vec::new(alloc);
@@ -88,7 +88,7 @@ fn push_writers(out: &mut Vec<u8>) -> Result<(), AllocError>
 
 /// Writes the information.
 #[tactic(auto, unfolding(crate::specs::Mkv::info))]
-fn push_info(alloc: Global, duration: u64, out: &mut Vec<u8>) -> Result<(), AllocError>
+pub(crate) fn push_info(alloc: Global, duration: u64, out: &mut Vec<u8>) -> Result<(), AllocError>
     requires { duration < 2 ^ 53 }
     ensures { OnOk result (out.new.items ≡ out.old.items ++ info duration) }
 {
@@ -100,7 +100,11 @@ fn push_info(alloc: Global, duration: u64, out: &mut Vec<u8>) -> Result<(), Allo
 
 /// Writes a block.
 #[tactic(auto, unfolding(crate::specs::Mkv::simple_block))]
-fn push_block(alloc: Global, block: &MkvBlock<'_>, out: &mut Vec<u8>) -> Result<(), AllocError>
+pub(crate) fn push_block(
+    alloc: Global,
+    block: &MkvBlock<'_>,
+    out: &mut Vec<u8>,
+) -> Result<(), AllocError>
     ensures { OnOk result (out.new.items ≡ out.old.items ++ simple_block (block_shown block.now)) }
 {
     let mut inner = Vec::new(alloc);
@@ -113,7 +117,7 @@ fn push_block(alloc: Global, block: &MkvBlock<'_>, out: &mut Vec<u8>) -> Result<
 
 /// Writes a cluster of blocks that are written already.
 #[tactic(auto, unfolding(crate::specs::Mkv::cluster))]
-fn push_cluster(
+pub(crate) fn push_cluster(
     alloc: Global,
     second: u64,
     blocks: &[u8],
@@ -129,7 +133,7 @@ fn push_cluster(
 }
 
 /// Writes the cluster of a second if the next block is of another one, and begins anew.
-fn close_cluster(
+pub(crate) fn close_cluster(
     alloc: Global,
     second: u64,
     next: u64,

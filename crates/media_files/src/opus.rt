@@ -110,7 +110,7 @@ fn silence_of(packet: &[u8]) -> ([u8; 2], usize)
 
 /// A packet with a valid duration.
 #[tactic(auto, unfolding(crate::specs::Opus::sound))]
-fn sound<'a>(packet: Option<&'a [u8]>) -> Option<&'a [u8]>
+pub(crate) fn sound<'a>(packet: Option<&'a [u8]>) -> Option<&'a [u8]>
     ensures { item result ≡ sound (item packet.entry) }
 {
     let Some(bytes) = packet else {
@@ -160,7 +160,11 @@ fn push_tags(out: &mut Vec<u8>) -> Result<(), AllocError>
 }
 
 /// Writes the page of the header.
-fn push_head_page(alloc: Global, stream: OpusStream, out: &mut Vec<u8>) -> Result<(), AllocError>
+pub(crate) fn push_head_page(
+    alloc: Global,
+    stream: OpusStream,
+    out: &mut Vec<u8>,
+) -> Result<(), AllocError>
     ensures { OnOk result (out.new.items ≡ out.old.items ++ head_page (stream_shown stream)) }
 {
     let mut head = Vec::new(alloc);
@@ -175,14 +179,14 @@ fn push_head_page(alloc: Global, stream: OpusStream, out: &mut Vec<u8>) -> Resul
 }
 
 /// The flag of the last page of a stream.
-fn last_flag(is_last: bool) -> u8
+pub(crate) fn last_flag(is_last: bool) -> u8
     ensures { result ≡ flags_of false is_last }
 {
     if is_last { 4 } else { 0 }
 }
 
 /// Writes the page of the comments.
-fn push_tags_page(
+pub(crate) fn push_tags_page(
     alloc: Global,
     serial: u32,
     is_last: bool,
@@ -202,7 +206,7 @@ fn push_tags_page(
 }
 
 /// Writes the page of a packet, or of silence as long as the one before.
-fn push_heard(
+pub(crate) fn push_heard(
     alloc: Global,
     place: &PagePlace,
     packet: Option<&[u8]>,

@@ -117,9 +117,15 @@ fn push_data(len: u32, out: &mut Vec<u8>) -> Result<(), AllocError>
     push_u32(out, len)
 }
 
-/// Writes what is in front of this many bytes.
+/// Writes what is in front of this many bytes of sound.
+///
+/// # Conditions
+/// They are fewer than 2^31.
+///
+/// # Errors
+/// There is no memory for it.
 #[tactic(auto, unfolding(crate::specs::Wav::wav_front))]
-fn push_wav_front(codec: WavCodec, len: u32, out: &mut Vec<u8>) -> Result<(), AllocError>
+pub fn push_wav_front(codec: WavCodec, len: u32, out: &mut Vec<u8>) -> Result<(), AllocError>
     requires { len < 2147483648 }
     ensures { OnOk result (out.new.items ≡ out.old.items ++ wav_front codec len) }
 {
@@ -130,8 +136,11 @@ fn push_wav_front(codec: WavCodec, len: u32, out: &mut Vec<u8>) -> Result<(), Al
     push_data(len, out)
 }
 
-/// Writes the padding byte after an odd number of bytes.
-fn push_padding(len: usize, out: &mut Vec<u8>) -> Result<(), AllocError>
+/// Writes what follows this many bytes of sound: after an odd number of them a byte of padding.
+///
+/// # Errors
+/// There is no memory for it.
+pub fn push_wav_padding(len: usize, out: &mut Vec<u8>) -> Result<(), AllocError>
     ensures { OnOk result (out.new.items ≡ out.old.items ++ padding len) }
 {
     if len % 2 != 0 {
@@ -173,6 +182,6 @@ pub fn wav_file(
     let mut out = Vec::new(alloc);
     push_wav_front(codec, data.len() as u32, &mut out)?;
     out.extend_from_slice(&data)?;
-    push_padding(data.len(), &mut out)?;
+    push_wav_padding(data.len(), &mut out)?;
     Ok(out)
 }

@@ -1,6 +1,6 @@
 -- One more fragment of a packet.
 use Rattle.std.proofs.Common.{◌≡◌, ℕ, suc, zero, ◌+◌, ◌-◌, ◌<◌, ◌≤◌, List, ◌++◌, length, true, false, refl, arith}
-use Rattle.std.proofs.Common.{Option, Some, None}
+use Rattle.std.proofs.Common.{Some, None}
 use Rattle.media_files_captures.specs.Fragments.{piece_at, whole_after}
 use Rattle.media_files_captures.specs.declared.fragments.IpFragment.{IpFragment}
 

@@ -1,10 +1,11 @@
 -- Tags, extension headers and tunnels passed.
 use Rattle.std.proofs.Common.{◌≡◌, ℕ, suc, zero, ◌+◌, ◌-◌, ◌<◌, ◌≤◌, List, [], ◌∷◌, length, drop, true, false, refl}
-use Rattle.std.proofs.Common.{arith, Option, Some, None, Result, Ok, Err}
+use Rattle.std.proofs.Common.{arith, Some, None, Ok, Err}
 use Rattle.media_files_captures.specs.Numbers.{u16_be}
 use Rattle.media_files_captures.specs.Network.{Extended, extended, is_tag, untagged}
-use Rattle.media_files_captures.specs.Ip.{behind_extensions, extension, is_passed}
-use Rattle.media_files_captures.specs.Tunnels.{inside}
+use Rattle.media_files_captures.specs.Ip.{behind_extensions, extension, is_passed, transport}
+use Rattle.media_files_captures.specs.Fragments.{fragment_behind, fragment_of}
+use Rattle.media_files_captures.specs.Tunnels.{inside, tunnelled_in}
 use Rattle.media_files_captures.specs.Frames.{datagram_behind, datagram_of}
 use Rattle.media_files_captures.specs.declared.frames.PassedOver.{PassedOver}
 
@@ -93,5 +94,25 @@ datagram_behind-end (suc n) t none = rw none refl
 pub datagram_behind-none : (most i : ℕ) (t : Extended) → most ≤ i → datagram_behind (most - i) t ≡ datagram_of t
 unfolding datagram_behind
 datagram_behind-none most i t past =
+    let none : most - i ≡ zero = omega arith in
+    rw none refl
+
+-- the same of a fragment
+pub fragment_behind-more : (most i : ℕ) (e deeper : Extended) → i < most → tunnelled_in (transport e) ≡ Some deeper
+    → fragment_behind (most - i) e ≡ fragment_behind (most - (i + 1)) deeper
+unfolding fragment_behind
+fragment_behind-more most i e deeper below read =
+    let one : most - i ≡ suc (most - (i + 1)) = omega arith in
+    rw (one, read) refl
+
+pub fragment_behind-end : (n : ℕ) (e : Extended) → tunnelled_in (transport e) ≡ None
+    → fragment_behind n e ≡ fragment_of e
+unfolding fragment_behind
+fragment_behind-end zero e none = refl
+fragment_behind-end (suc n) e none = rw none refl
+
+pub fragment_behind-none : (most i : ℕ) (e : Extended) → most ≤ i → fragment_behind (most - i) e ≡ fragment_of e
+unfolding fragment_behind
+fragment_behind-none most i e past =
     let none : most - i ≡ zero = omega arith in
     rw none refl

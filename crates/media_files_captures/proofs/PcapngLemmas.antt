@@ -4,24 +4,21 @@ use Rattle.std.proofs.Common.{arith, ◌≤◌, ◌==◌, true, false, length, d
 use Rattle.std.specs.Option.{option_to_list}
 use Rattle.media_files_captures.specs.Captures.{Packet}
 use Rattle.media_files_captures.specs.Runs.{Holds}
-use Rattle.media_files_captures.specs.Pcapng.{Block, Reader, reader, block, packet_in, interfaces_after, packets_of}
+use Rattle.media_files_captures.specs.Pcapng.{Block, Reader, block, packet_in, interfaces_after, interfaces_of, packets_of}
 use Rattle.media_files_captures.specs.Pcapng.{and_packet, option_byte, is_wanted, padded}
 use Rattle.media_files_captures.specs.Numbers.{u16_at}
 use Rattle.media_files_captures.specs.declared.interfaces.Interface.{Interface}
 use Rattle.media_files_captures.specs.declared.numbers.ByteOrder.{ByteOrder}
-use Rattle.media_files_captures.specs.declared.numbers.ByteOrder.TheVariants.{Big}
 use Rattle.media_files_captures.proofs.RunLemmas.{Holds-push}
 
-abbrev pub interfaces_of : List Interface → List Block → List Interface
-interfaces_of interfaces [] = interfaces
-interfaces_of interfaces (b ∷ blocks) = interfaces_of (interfaces_after interfaces b) blocks
-
--- a file read up to here
-pub record IsReadTo (file : List ℕ) (packets : List Packet) (interfaces : List Interface) (here : Reader) : Type 0 where
-  pub blocks : List Block
-  pub held : Holds block (reader Big file) blocks here
-  pub packets_are : packets ≡ packets_of [] blocks
-  pub interfaces_are : interfaces ≡ interfaces_of [] blocks
+-- bytes read up to here
+pub record IsReadTo (from : Reader) (known : List Interface) (packets : List Packet) (interfaces : List Interface)
+    (here : Reader) : Type 0
+  where
+    pub blocks : List Block
+    pub held : Holds block from blocks here
+    pub packets_are : packets ≡ packets_of known blocks
+    pub interfaces_are : interfaces ≡ interfaces_of known blocks
 
 pub interfaces_of-push : (interfaces : List Interface) (blocks : List Block) (b : Block)
     → interfaces_of interfaces (blocks ++ b ∷ []) ≡ interfaces_after (interfaces_of interfaces blocks) b
@@ -47,15 +44,15 @@ packets_of-push interfaces (a ∷ blocks) b =
     ∙ and_packet-push (packet_in interfaces a) (packets_of (interfaces_after interfaces a) blocks)
     (option_to_list (packet_in (interfaces_of (interfaces_after interfaces a) blocks) b))
 
-pub read-more : (file : List ℕ) (packets after : List Packet) (interfaces then : List Interface) (here next : Reader)
-    (b : Block) → IsReadTo file packets interfaces here → block here ≡ Some (b, next)
-    → after ≡ packets ++ option_to_list (packet_in interfaces b) → then ≡ interfaces_after interfaces b
-    → IsReadTo file after then next
-read-more file packets after interfaces then here next b sofar found taken known = record {
+pub read-more : (from : Reader) (known : List Interface) (packets after : List Packet)
+    (interfaces then : List Interface) (here next : Reader) (b : Block) → IsReadTo from known packets interfaces here
+    → block here ≡ Some (b, next) → after ≡ packets ++ option_to_list (packet_in interfaces b)
+    → then ≡ interfaces_after interfaces b → IsReadTo from known after then next
+read-more from known packets after interfaces then here next b sofar found taken is = record {
   blocks = sofar.blocks ++ b ∷ [];
-  held = Holds-push block (reader Big file) sofar.blocks b here next sofar.held found;
-  packets_are = sym (packets_of-push [] sofar.blocks b ∙ cc);
-  interfaces_are = sym (interfaces_of-push [] sofar.blocks b ∙ cc);
+  held = Holds-push block from sofar.blocks b here next sofar.held found;
+  packets_are = sym (packets_of-push known sofar.blocks b ∙ cc);
+  interfaces_are = sym (interfaces_of-push known sofar.blocks b ∙ cc);
 }
 
 -- an option passed

@@ -1,9 +1,8 @@
 -- A whole packet is made of fragments of it, each from where the one before ends.
-use Rattle.std.proofs.Common.{◌≡◌, ℕ, suc, zero, ◌+◌, ◌==◌, ◌&&◌, Bool, true, false, ◌⊎◌, List, [], ◌∷◌, ◌++◌, length, refl}
-use Rattle.std.proofs.Common.{sym, ap, ◌∙◌, subst, inl, inr, cond, Option, Some, None, append-nil, append_assoc, arith}
+use Rattle.std.proofs.Common.{◌≡◌, ℕ, suc, zero, ◌+◌, ◌==◌, ◌&&◌, Bool, true, false, List, [], ◌∷◌, ◌++◌, length, refl}
+use Rattle.std.proofs.Common.{sym, ap, ◌∙◌, subst, inl, inr, cond, Option, Some, None, append-nil, append_assoc}
 use Rattle.std.proofs.lemmas.Bool.{eqb-true}
 use Rattle.std.proofs.lemmas.List.{length-append}
-use Rattle.std.specs.List.{flat_map}
 use Rattle.media_files_captures.specs.Fragments.{ArePieces, IsNext, bytes_of, is_of_packet, piece_at, whole_after}
 use Rattle.media_files_captures.specs.Fragments.{with_piece}
 use Rattle.media_files_captures.specs.declared.fragments.IpFragment.{IpFragment}

@@ -1,5 +1,5 @@
 -- Attributes passed.
-use Rattle.std.proofs.Common.{◌≡◌, ℕ, suc, zero, ◌+◌, ◌-◌, ◌<◌, ◌≤◌, ◌==◌, List, length, take, drop, true, false, refl}
+use Rattle.std.proofs.Common.{◌≡◌, ℕ, suc, ◌+◌, ◌-◌, ◌<◌, ◌≤◌, ◌==◌, List, length, take, drop, true, false, refl}
 use Rattle.std.proofs.Common.{arith, nat_lt, Some}
 use Rattle.media_files_captures.specs.Numbers.{u16_be}
 use Rattle.media_files_captures.specs.Pcapng.{padded}

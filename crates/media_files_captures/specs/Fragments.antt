@@ -1,14 +1,15 @@
 -- Fragments of IP packets, and the packets that they make.
-use Rattle.std.specs.Prelude.{◌≡◌, ℕ, zero, suc, ◌+◌, ◌-◌, ◌*◌, ◌/◌, ◌%◌, ◌==◌, ◌&&◌, Bool, true, false, not, nat_eq}
+use Rattle.std.specs.Prelude.{◌≡◌, ℕ, zero, suc, ◌+◌, ◌-◌, ◌*◌, ◌/◌, ◌%◌, ◌==◌, ◌&&◌, Bool, true, not, nat_eq}
 use Rattle.std.specs.Prelude.{nat_lt, nat_le, List, [], ◌∷◌, ◌++◌, length, take, drop, slice_index, filter}
-use Rattle.std.specs.Prelude.{Option, None, Some, option_map, Result, Ok, Err, if◌then◌else◌}
+use Rattle.std.specs.Prelude.{Option, None, Some, Result, Ok, Err, if◌then◌else◌}
 use Rattle.std.specs.Prelude.{◌⊎◌, MatchBool}
 use Rattle.std.specs.Cmp.Lexicographic.{pointwise}
 use Rattle.std.specs.List.{flat_map}
 use Rattle.media_files_captures.specs.Numbers.{u16_be, u32_at}
 use Rattle.media_files_captures.specs.Network.{Extended, network_in}
 use Rattle.media_files_captures.specs.Ip.{ipv4_header_length, ipv6_upper, is_carrier, is_ipv4, is_ipv4_fragment}
-use Rattle.media_files_captures.specs.Ip.{is_ipv6_fragment}
+use Rattle.media_files_captures.specs.Ip.{is_ipv6_fragment, transport}
+use Rattle.media_files_captures.specs.Tunnels.{tunnelled_in}
 use Rattle.media_files_captures.specs.declared.numbers.ByteOrder.TheVariants.{Big}
 use Rattle.media_files_captures.specs.declared.fragments.IpFragment.{IpFragment}
 use Rattle.media_files_captures.specs.declared.fragments.Reassembly.{Reassembly}
@@ -103,11 +104,21 @@ fragment_of e =
     else if e.next == 0x86dd then ipv6_fragment e.rest
     else None
 
+-- The fragment that a packet is, or that is in at most n tunnels inside it.
+abbrev pub behind_packet : Option Extended → Option Fragment → (Extended → Option Fragment) → Option Fragment
+behind_packet None here deeper = here
+behind_packet (Some e) here deeper = deeper e
+
+unfoldable pub fragment_behind : ℕ → Extended → Option Fragment
+fragment_behind zero e = fragment_of e
+fragment_behind (suc n) e =
+    behind_packet (tunnelled_in (transport e)) (fragment_of e) (λ deeper. fragment_behind n deeper)
+
 abbrev pub fragment_of_packet : Result Extended PassedOver → Option Fragment
-fragment_of_packet (Ok e) = fragment_of e
+fragment_of_packet (Ok e) = fragment_behind 4 e
 fragment_of_packet (Err why) = None
 
--- The fragment that a frame carries.
+-- The fragment that a frame carries, inside at most four tunnels.
 unfoldable pub fragment_in : LinkType → List ℕ → Option Fragment
 fragment_in link frame = fragment_of_packet (network_in link frame)
 

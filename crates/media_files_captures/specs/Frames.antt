@@ -2,7 +2,7 @@
 use Rattle.std.specs.Prelude.{ℕ, ◌-◌, ◌==◌, List, length, take, drop, nat_lt, Option, None, Some}
 use Rattle.std.specs.Prelude.{Result, Ok, Err, zero, suc, if◌then◌else◌}
 use Rattle.media_files_captures.specs.Numbers.{u16_be}
-use Rattle.media_files_captures.specs.Network.{Extended, extended, go_on, network_in}
+use Rattle.media_files_captures.specs.Network.{Extended, go_on, network_in}
 use Rattle.media_files_captures.specs.Ip.{transport}
 use Rattle.media_files_captures.specs.Tunnels.{inside}
 use Rattle.media_files_captures.specs.declared.frames.UdpDatagram.{UdpDatagram}

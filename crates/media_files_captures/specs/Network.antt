@@ -1,5 +1,5 @@
 -- The network packet in a frame, after tags and sessions of PPP.
-use Rattle.std.specs.Prelude.{ℕ, ◌/◌, ◌==◌, ◌&&◌, ◌||◌, Bool, not, List, ◌∷◌, length, drop, slice_index, nat_lt}
+use Rattle.std.specs.Prelude.{ℕ, ◌/◌, ◌==◌, ◌&&◌, ◌||◌, Bool, List, ◌∷◌, length, drop, slice_index, nat_lt}
 use Rattle.std.specs.Prelude.{Result, Ok, Err, if◌then◌else◌}
 use Rattle.std.specs.Borrow.{Bor}
 use Rattle.media_files_captures.specs.Numbers.{u16_be}

@@ -152,6 +152,11 @@ packets_of interfaces [] = []
 packets_of interfaces (b ∷ blocks) =
     and_packet (packet_in interfaces b) (packets_of (interfaces_after interfaces b) blocks)
 
+-- The interfaces known after blocks.
+abbrev pub interfaces_of : List Interface → List Block → List Interface
+interfaces_of interfaces [] = interfaces
+interfaces_of interfaces (b ∷ blocks) = interfaces_of (interfaces_after interfaces b) blocks
+
 -- A file begins with a section's header.
 abbrev pub is_pcapng : List ℕ → Bool
 is_pcapng file = nat_le 12 (length file) && (u32_at Big file 0 == section_kind)

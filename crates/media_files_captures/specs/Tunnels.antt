@@ -50,6 +50,25 @@ inside t =
     else if (t.next == 17) && is_vxlan t.rest then some_in (through (extended 0x6558 (drop 16 t.rest)))
     else Ok None
 
+-- The network packet in the tunnel that a packet's payload is; None if it is none, or can't be read.
+abbrev pub packet_or_none : Result Extended PassedOver → Option Extended
+packet_or_none (Ok e) = Some e
+packet_or_none (Err why) = None
+
+unfoldable pub tunnelled : Extended → Option Extended
+tunnelled t =
+    if t.next == 47 then packet_or_none (go_on (gre t.rest) bridged)
+    else if (t.next == 17) && is_vxlan t.rest then packet_or_none (bridged (extended 0x6558 (drop 16 t.rest)))
+    else None
+
+abbrev pub tunnelled_in : Result Extended PassedOver → Option Extended
+tunnelled_in (Ok t) = tunnelled t
+tunnelled_in (Err why) = None
+
+abbrev pub read_packet : Option (ℕ × Bor (List ℕ)) → Option Extended
+read_packet (Some e) = Some (extended e.0 e.1.now)
+read_packet None = None
+
 abbrev pub read_inside : Result (Option (ℕ × Bor (List ℕ))) PassedOver → Result (Option Extended) PassedOver
 read_inside (Ok (Some e)) = Ok (Some (extended e.0 e.1.now))
 read_inside (Ok None) = Ok None

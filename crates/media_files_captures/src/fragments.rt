@@ -4,12 +4,16 @@ ghost use Rattle.std.specs.Prelude.{◌≡◌, ◌++◌, ◌∷◌, ◌≤◌, �
 ghost use Rattle.media_files_captures.specs.Fragments.{Taken, fragment_in, fragment_of, fragment_shown, ipv4_fragment};
 ghost use Rattle.media_files_captures.specs.Fragments.{ipv6_fragment, ipv6_piece_of, is_of_packet, is_other, piece_at};
 ghost use Rattle.media_files_captures.specs.Fragments.{relation, relation_to, whole, with_end, with_room};
+ghost use Rattle.media_files_captures.specs.Fragments.{fragment_behind};
+ghost use Rattle.media_files_captures.specs.Ip.{transport};
 ghost use Rattle.media_files_captures.specs.Network.{extended};
+ghost use Rattle.media_files_captures.specs.Tunnels.{read_packet, tunnelled_in};
 
-use crate::frames::LinkType;
-use crate::ip::{ipv6_upper, is_carrier, is_ipv6_fragment};
+use crate::frames::{LinkType, MOST_TUNNELS};
+use crate::ip::{ipv6_upper, is_carrier, is_ipv6_fragment, transport};
 use crate::network::{IPV4, IPV6, packet_in};
 use crate::numbers::{ByteOrder, rest_from, u16_be, u32_at};
+use crate::tunnels::tunnelled;
 use std::alloc::{AllocError, Global};
 
 /// A fragment of an IP packet that carries UDP or GRE.
@@ -137,14 +141,39 @@ fn fragment_of(kind: u16, packet: &[u8]) -> Option<IpFragment<'_>>
     }
 }
 
-/// The fragment of an IP packet that a frame carries, outside of any tunnel. None if it carries none, one that the
-/// capture cut, or one of a payload that is neither UDP nor GRE.
+/// The packet in the tunnel that a packet carries, and its EtherType.
+fn packet_inside(kind: u16, packet: &[u8]) -> Option<(u16, &[u8])>
+    ensures { read_packet result ≡ tunnelled_in (transport (extended kind packet.now)) }
+{
+    let Ok((protocol, payload)) = transport(kind, packet) else {
+        return None;
+    };
+    tunnelled(protocol, payload)
+}
+
+/// The fragment that a packet is, or that is in at most so many tunnels inside it.
+fn fragment_behind(kind: u16, packet: &[u8], most: usize) -> Option<IpFragment<'_>>
+    ensures { option_map fragment_shown result ≡ fragment_behind most (extended kind packet.now) }
+{
+    let mut kind = kind;
+    let mut rest = packet;
+    for _passed in 0..most {
+        let Some(deeper) = packet_inside(kind, rest) else {
+            return fragment_of(kind, rest);
+        };
+        (kind, rest) = deeper;
+    }
+    fragment_of(kind, rest)
+}
+
+/// The fragment of an IP packet that a frame carries, or that is in at most four tunnels (GRE, VXLAN) inside it. None if
+/// it carries none, one that the capture cut, or one of a payload that is neither UDP nor GRE.
 #[tactic(auto, unfolding(crate::specs::Fragments::fragment_in))]
 pub fn fragment_in(link: LinkType, frame: &[u8]) -> Option<IpFragment<'_>>
     ensures { option_map fragment_shown result ≡ fragment_in link frame.now }
 {
     match packet_in(link, frame) {
-        Ok((kind, packet)) => fragment_of(kind, packet),
+        Ok((kind, packet)) => fragment_behind(kind, packet, MOST_TUNNELS),
         Err(_) => None,
     }
 }

@@ -10,7 +10,7 @@ use crate::numbers::u16_be;
 use crate::tunnels::inside;
 
 // How many tunnels one inside the other are read.
-const MOST_TUNNELS: usize = 4;
+pub(crate) const MOST_TUNNELS: usize = 4;
 
 /// How a captured frame begins, by the number that a capture gives for it.
 #[derive(Debug, Clone, Copy, PartialEq, Eq)]

@@ -25,7 +25,9 @@ pub use hex_lines::{HexDatagram, HexError, read_hex_lines};
 pub use interfaces::Interface;
 pub use laws::capture_laws;
 pub use numbers::{ByteOrder, push_u16, push_u32, push_u64, rest_from, u16_at, u16_be, u32_at};
-pub use pcap::{PcapHeader, link_of, read_pcap};
-pub use pcapng::{PcapngBlock, PcapngReader, read_pcapng};
-pub use rtpdump::{Rtpdump, RtpdumpDatagram, read_rtpdump};
+pub use pcap::{PcapHeader, link_of, pcap_header, read_pcap, read_pcap_records};
+pub use pcapng::{
+    PcapngBlock, PcapngReader, PcapngSection, is_pcapng, read_pcapng, read_pcapng_blocks,
+};
+pub use rtpdump::{Rtpdump, RtpdumpDatagram, read_rtpdump, read_rtpdump_records, rtpdump_records};
 pub use turn::relayed_in;

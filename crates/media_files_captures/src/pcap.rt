@@ -5,11 +5,12 @@ ghost use Rattle.media_files_captures.specs.Captures.{read, seen};
 ghost use Rattle.media_files_captures.specs.Links.{link_of};
 ghost use Rattle.media_files_captures.specs.Pcap.{digits_of, IsPcap, pcap_format, pcap_header, pcap_record};
 ghost use Rattle.media_files_captures.specs.Pcap.{ticks_per_second};
+ghost use Rattle.media_files_captures.specs.Runs.{HoldsAll};
 
 use crate::captures::{Capture, CaptureError, CapturedPacket, Resolution};
 use crate::frames::LinkType;
 use crate::numbers::{ByteOrder, rest_from, u32_at};
-use std::alloc::Global;
+use std::alloc::{AllocError, Global};
 
 /// The link type of a number.
 pub fn link_of(number: u16) -> LinkType
@@ -63,9 +64,9 @@ fn format_of(file: &[u8]) -> Option<(ByteOrder, u8)>
     None
 }
 
-/// The header in front of a file.
+/// The header in front of a file, which has 24 bytes; None if there is none.
 #[tactic(auto, unfolding(crate::specs::Pcap::pcap_header))]
-fn pcap_header(file: &[u8]) -> Option<PcapHeader>
+pub fn pcap_header(file: &[u8]) -> Option<PcapHeader>
     ensures value { result ≡ pcap_header file.now }
     ensures room { IfSome result (λ _. 24 ≤ length file.now) }
 {
@@ -117,6 +118,27 @@ fn pcap_record<'a>(header: PcapHeader, bytes: &'a [u8]) -> Option<(CapturedPacke
     Some((packet, rest_from(bytes, 16 + kept)))
 }
 
+/// The packets of records after the header of a file, up to the first that isn't whole: of all records, or of a piece of
+/// them, after which reading goes on with what is left and the bytes that follow.
+///
+/// # Errors
+/// There is no memory for the list.
+pub fn read_pcap_records(
+    alloc: Global,
+    header: PcapHeader,
+    bytes: &[u8],
+) -> Result<Capture<'_>, AllocError>
+    ensures { IfOk result (λ c. HoldsAll (pcap_record header) bytes.now (map seen c.packets.items) c.unread.now) }
+{
+    let mut packets = Vec::new(alloc);
+    let mut unread = bytes;
+    while let Some((packet, behind)) = pcap_record(header, unread) {
+        packets.push(packet)?;
+        unread = behind;
+    }
+    Ok(Capture { packets, unread })
+}
+
 /// The packets of a pcap file, of either byte order, with times in microseconds or in nanoseconds.
 ///
 /// # Errors
@@ -129,11 +151,5 @@ pub fn read_pcap(alloc: Global, file: &[u8]) -> Result<Capture<'_>, CaptureError
     let Some(header) = pcap_header(file) else {
         return Err(CaptureError::UnknownFormat);
     };
-    let mut packets = Vec::new(alloc);
-    let mut unread = rest_from(file, 24);
-    while let Some((packet, behind)) = pcap_record(header, unread) {
-        packets.push(packet)?;
-        unread = behind;
-    }
-    Ok(Capture { packets, unread })
+    Ok(read_pcap_records(alloc, header, rest_from(file, 24))?)
 }

@@ -5,7 +5,8 @@ ghost use Rattle.media_files_captures.specs.Captures.{seen};
 ghost use Rattle.media_files_captures.specs.Pcapng.{block, block_at, enhanced, interfaces_after, is_length, is_pcapng};
 ghost use Rattle.media_files_captures.specs.Pcapng.{IsPcapng, kept_of, order_of, packet_at, packet_in, reader, simple};
 ghost use Rattle.media_files_captures.specs.Pcapng.{with_interface};
-ghost use Rattle.media_files_captures.specs.PcapngViews.{block_shown, packet_seen, read_block, reader_shown};
+ghost use Rattle.media_files_captures.specs.PcapngViews.{HoldsBlocks, block_shown, packet_seen, read_block};
+ghost use Rattle.media_files_captures.specs.PcapngViews.{reader_shown};
 ghost use Rattle.std.specs.Option.{option_to_list};
 
 use crate::captures::{Capture, CaptureError, CapturedPacket};
@@ -46,6 +47,31 @@ pub struct PcapngReader<'a> {
     pub order: ByteOrder,
     /// What is left.
     pub rest: &'a [u8],
+}
+
+/// What the blocks that are read say of those that follow.
+#[derive(Debug, Drop)]
+pub struct PcapngSection {
+    /// The byte order of the section.
+    pub order: ByteOrder,
+    /// The interfaces that it describes, by their numbers.
+    pub interfaces: Vec<Interface>,
+}
+
+impl PcapngSection {
+    ghost use Rattle.std.specs.Prelude.{◌≡◌, []};
+    ghost use Rattle.media_files_captures.specs.declared.numbers.ByteOrder.TheVariants.{Big};
+
+    /// The start of a file, whose first block says the byte order.
+    pub fn new(alloc: Global) -> PcapngSection
+        ensures order { result.order ≡ Big }
+        ensures interfaces { result.interfaces.items ≡ [] }
+    {
+        PcapngSection {
+            order: ByteOrder::Big,
+            interfaces: Vec::new(alloc),
+        }
+    }
 }
 
 /// The byte order of a block: a section's header says its own.
@@ -219,6 +245,42 @@ fn take_interface(
     Ok(())
 }
 
+/// Whether a file begins with the header of a section, which a pcapng file does.
+pub fn is_pcapng(file: &[u8]) -> bool
+    ensures { result ≡ is_pcapng file.now }
+{
+    file.len() >= 12 && u32_at(ByteOrder::Big, file, 0) == SECTION
+}
+
+/// The packets of blocks, up to the first block that isn't whole: of all blocks, or of a piece of them, after which
+/// reading goes on with what is left and the bytes that follow. The section is then the one that the blocks lead to.
+///
+/// # Errors
+/// There is no memory for the lists; the section is then one that some of the blocks lead to.
+pub fn read_pcapng_blocks<'a>(
+    alloc: Global,
+    section: &mut PcapngSection,
+    bytes: &'a [u8],
+) -> Result<Capture<'a>, AllocError>
+    ensures { IfOk result (λ c. HoldsBlocks section.old section.new bytes.now (map seen c.packets.items) c.unread.now) }
+{
+    let mut packets = Vec::new(alloc);
+    let mut reader = PcapngReader {
+        order: section.order,
+        rest: bytes,
+    };
+    while let Some((next, behind)) = block(reader) {
+        take_packet(&section.interfaces, &next, &mut packets)?;
+        take_interface(&next, &mut section.interfaces)?;
+        reader = behind;
+    }
+    section.order = reader.order;
+    Ok(Capture {
+        packets,
+        unread: reader.rest,
+    })
+}
+
 /// The packets of a pcapng file: those in enhanced, simple and old packet blocks of interfaces that their section
 /// describes. A section has its own byte order and interfaces, an interface its own link type and resolution. Packets
 /// of simple blocks have no time.
@@ -231,22 +293,9 @@ pub fn read_pcapng(alloc: Global, file: &[u8]) -> Result<Capture<'_>, CaptureErr
         → (e ≡ CaptureError.UnknownFormat) × (is_pcapng file.now ≡ false)) }
     ensures known { IfOk result (λ _. is_pcapng file.now ≡ true) }
 {
-    if file.len() < 12 || u32_at(ByteOrder::Big, file, 0) != SECTION {
+    if !is_pcapng(file) {
         return Err(CaptureError::UnknownFormat);
     }
-    let mut packets = Vec::new(alloc);
-    let mut interfaces = Vec::new(alloc);
-    let mut reader = PcapngReader {
-        order: ByteOrder::Big,
-        rest: file,
-    };
-    while let Some((next, behind)) = block(reader) {
-        take_packet(&interfaces, &next, &mut packets)?;
-        take_interface(&next, &mut interfaces)?;
-        reader = behind;
-    }
-    Ok(Capture {
-        packets,
-        unread: reader.rest,
-    })
+    let mut section = PcapngSection::new(alloc);
+    Ok(read_pcapng_blocks(alloc, &mut section, file)?)
 }

@@ -2,11 +2,12 @@
 
 ghost use Rattle.std.specs.Prelude.{◌≡◌, ◌≢◌, ◌<◌, ◌==◌, IfErr, IfOk, IfSome, None, length, map, position};
 ghost use Rattle.media_files_captures.specs.Rtpdump.{IsRtpdump, behind_line, datagram_seen, first_line};
+ghost use Rattle.media_files_captures.specs.Runs.{HoldsAll};
 ghost use Rattle.media_files_captures.specs.Rtpdump.{read_datagram, rest_seen, rtpdump_record, rtpdump_records};
 
 use crate::captures::CaptureError;
 use crate::numbers::{ByteOrder, rest_from, u16_be, u32_at};
-use std::alloc::Global;
+use std::alloc::{AllocError, Global};
 
 /// A datagram that a file holds.
 #[derive(Debug, Clone, Copy)]
@@ -47,9 +48,9 @@ fn behind_line(file: &[u8]) -> Option<&[u8]>
     Some(rest_from(file, len + 17))
 }
 
-/// The records of a file.
+/// The records of a file, after its first line and its header; None if there are none.
 #[tactic(auto, unfolding(crate::specs::Rtpdump::rtpdump_records))]
-fn rtpdump_records(file: &[u8]) -> Option<&[u8]>
+pub fn rtpdump_records(file: &[u8]) -> Option<&[u8]>
     ensures { rest_seen result ≡ rtpdump_records file.now }
 {
     if !file.starts_with(b"#!rtpplay1.0 ") {
@@ -79,6 +80,23 @@ fn rtpdump_record(bytes: &[u8]) -> Option<(RtpdumpDatagram<'_>, &[u8])>
     Some((datagram, rest_from(bytes, len)))
 }
 
+/// The datagrams of records after the header of a file, up to the first that isn't whole: of all records, or of a piece
+/// of them, after which reading goes on with what is left and the bytes that follow.
+///
+/// # Errors
+/// There is no memory for the list.
+pub fn read_rtpdump_records(alloc: Global, bytes: &[u8]) -> Result<Rtpdump<'_>, AllocError>
+    ensures { IfOk result (λ d. HoldsAll rtpdump_record bytes.now (map datagram_seen d.datagrams.items) d.unread.now) }
+{
+    let mut datagrams = Vec::new(alloc);
+    let mut unread = bytes;
+    while let Some((datagram, behind)) = rtpdump_record(unread) {
+        datagrams.push(datagram)?;
+        unread = behind;
+    }
+    Ok(Rtpdump { datagrams, unread })
+}
+
 /// The datagrams of a file of rtpdump.
 ///
 /// # Errors
@@ -91,11 +109,5 @@ pub fn read_rtpdump(alloc: Global, file: &[u8]) -> Result<Rtpdump<'_>, CaptureEr
     let Some(records) = rtpdump_records(file) else {
         return Err(CaptureError::UnknownFormat);
     };
-    let mut datagrams = Vec::new(alloc);
-    let mut unread = records;
-    while let Some((datagram, behind)) = rtpdump_record(unread) {
-        datagrams.push(datagram)?;
-        unread = behind;
-    }
-    Ok(Rtpdump { datagrams, unread })
+    Ok(read_rtpdump_records(alloc, records)?)
 }

@@ -3,7 +3,7 @@
 ghost use Rattle.std.specs.Prelude.{◌≡◌, ◌≤◌, length, ℕ};
 ghost use Rattle.media_files_captures.specs.Network.{extended, read_extension};
 ghost use Rattle.media_files_captures.specs.Tunnels.{bridged, gre, gre_length, inside, is_gre, is_vxlan, read_inside};
-ghost use Rattle.media_files_captures.specs.Tunnels.{through};
+ghost use Rattle.media_files_captures.specs.Tunnels.{read_packet, through, tunnelled};
 
 use crate::frames::{LinkType, PassedOver};
 use crate::ip::{GRE, UDP, transport};
@@ -77,6 +77,23 @@ fn through(kind: u16, bytes: &[u8]) -> Result<(u8, &[u8]), PassedOver>
 {
     let (kind, packet) = bridged(kind, bytes)?;
     transport(kind, packet)
+}
+
+/// The network packet in the tunnel that a packet's payload is, and its EtherType; None if it is none, or can't be read.
+#[tactic(auto, unfolding(crate::specs::Tunnels::tunnelled))]
+pub(crate) fn tunnelled(protocol: u8, bytes: &[u8]) -> Option<(u16, &[u8])>
+    ensures { read_packet result ≡ tunnelled (extended protocol bytes.now) }
+{
+    if protocol == GRE {
+        let Ok((kind, packet)) = gre_packet(bytes) else {
+            return None;
+        };
+        return bridged(kind, packet).ok();
+    }
+    if protocol == UDP && is_vxlan(bytes) {
+        return bridged(BRIDGED, rest_from(bytes, 16)).ok();
+    }
+    None
 }
 
 /// What the packet inside this one carries, if it is a tunnel: a protocol, and its bytes.

@@ -1,18 +1,17 @@
 -- Bytes of bit strings, from the bytes of the text.
 use Rattle.std.proofs.Common.{◌≡◌, Bool, ℕ, zero, suc, ◌+◌, ◌-◌, ◌*◌, ◌/◌, ◌%◌, ◌^◌, ◌<◌, ◌≤◌, List, [], ◌∷◌, ◌++◌}
 use Rattle.std.proofs.Common.{length, take, drop, ltb, leb}
-use Rattle.std.proofs.Common.{eqb, get_or, true}
+use Rattle.std.proofs.Common.{get_or, true}
 use Rattle.std.proofs.Common.{false, if◌then◌else◌, refl, sym, ap, ◌∙◌, arith}
 use mir.Syntax.{w8}
 use mir.Val.{Fits}
 use Rattle.std.proofs.lemmas.List.{ext_get_or, get_or-drop, get_or-take, length-drop, length-take}
 use Rattle.std.proofs.lemmas.List.FromFn.{get_or-map-range_with_len, length-map-range_with_len}
 use Rattle.std.proofs.lemmas.List.FromFn.{map-range_with_len_more}
-use mathlib.Core.Bool.{false≢true}
 use Rattle.std.proofs.lemmas.Bool.Decides.{nat_tests}
-use Rattle.payload_core_audio.specs.AmrWb.{bit_of, byte_from, bytes_from, efficient_bit, field_of, header_at}
+use Rattle.payload_core_audio.specs.AmrWb.{bit_of, byte_from, bytes_from, field_of, header_at}
 use Rattle.payload_core_audio.specs.AmrWb.{speech_of}
-use Rattle.payload_core_audio.specs.BitBytes.{bits_from, endless_bit, first_bits, front_of}
+use Rattle.payload_core_audio.specs.BitBytes.{bits_from, first_bits, front_of}
 
 -- a bit by its byte and its place there
 bit_in : (bytes : List ℕ) (n q s : ℕ) → n ≡ 8 * q + s → s < 8 → bit_of bytes n ≡ get_or bytes q 0 / 2 ^ (7 - s) % 2
@@ -136,7 +135,8 @@ byte-here bytes place o r is few small small' =
     bit_in bytes (place + (8 * 0 + j)) (o + 1) (r + j - 8) (omega arith) (omega arith)
     ∙ ap (λ e. get_or bytes (o + 1) 0 / 2 ^ e % 2) p)
 
-same_byte : (bit other : ℕ → ℕ) (k m : ℕ) → bit (8 * k) ≡ other (8 * m)
+-- a byte of one bit string and a byte of another, if they have the same bits
+pub same_byte : (bit other : ℕ → ℕ) (k m : ℕ) → bit (8 * k) ≡ other (8 * m)
     → ((j : ℕ) → bit (8 * k + j) ≡ other (8 * m + j)) → byte_from bit k ≡ byte_from other m
 same_byte bit other k m first others =
     omega (arith, first, others 1, others 2, others 3, others 4, others 5, others 6, others 7)
@@ -150,7 +150,7 @@ byte-after bytes place k =
     same_byte (bits_from bytes place) (bits_from bytes (place + 8 * k)) k 0 (ap (bit_of bytes) e0)
     (λ j. ap (bit_of bytes) (e j))
 
-bit_small : (bytes : List ℕ) (n : ℕ) → bit_of bytes n < 2
+pub bit_small : (bytes : List ℕ) (n : ℕ) → bit_of bytes n < 2
 bit_small bytes n = omega arith
 
 inside : (size : ℕ) (bit : ℕ → ℕ) (i : ℕ) → i < size → first_bits size bit i ≡ bit i
@@ -161,7 +161,8 @@ past : (size : ℕ) (bit : ℕ → ℕ) (i : ℕ) → size ≤ i → first_bits 
 past size bit i le = let t : ltb i size ≡ false = grind (arith, nat_tests) in
     ap (λ (b : Bool). if b then bit i else 0) t
 
-whole : (a b count : ℕ) → 8 ≤ count → a ≡ b → a ≡ front_of count b
+-- all bits of a byte
+pub whole : (a b count : ℕ) → 8 ≤ count → a ≡ b → a ≡ front_of count b
 whole a b count le same = let t : leb 8 count ≡ true = grind (arith, nat_tests) in
     same ∙ sym (ap (λ (x : Bool). if x then b else b / 2 ^ (8 - count) * 2 ^ (8 - count)) t)
 
@@ -213,76 +214,6 @@ pub header-byte : (bytes : List ℕ) (place : ℕ) → header_at bytes place
 unfolding header_at
 header-byte bytes place = entry_bits (bits_from bytes place) (λ i. bit_small bytes (place + i)) 0
 
-endless_small : (sample : List ℕ) (i : ℕ) → endless_bit sample i < 2
-endless_small sample i = by_tests (ltb i 4) (eqb i 4) (ltb i 10)
-  where
-    by_tests : (a b c : Bool) → (if a then 1 else (if b then 0 else (if c then bit_of sample (i - 4)
-        else bit_of sample (i - 2)))) < 2
-    by_tests true b c = omega arith
-    by_tests false true c = omega arith
-    by_tests false false true = bit_small sample (i - 4)
-    by_tests false false false = bit_small sample (i - 2)
-
--- a bandwidth-efficient packet is the first bits of what goes on
-efficient_here : (sample : List ℕ) (size i : ℕ) → efficient_bit sample size i
-    ≡ first_bits (size + 10) (endless_bit sample) i
-unfolding efficient_bit
-efficient_here sample size i = by_tests (ltb i 4) (eqb i 4) (ltb i 10) (ltb i (size + 10))
-    (λ e. grind (arith, nat_tests)) (λ e. grind (arith, nat_tests)) (λ e. grind (arith, nat_tests))
-  where
-    by_tests : (a b c d : Bool) → (d ≡ false → a ≡ false) → (d ≡ false → b ≡ false) → (d ≡ false → c ≡ false)
-        → (if a then 1 else (if b then 0 else (if c then bit_of sample (i - 4)
-        else (if d then bit_of sample (i - 2) else 0))))
-        ≡ (if d then (if a then 1 else (if b then 0 else (if c then bit_of sample (i - 4)
-        else bit_of sample (i - 2)))) else 0)
-    by_tests a b c true none_a none_b none_c = refl
-    by_tests true b c false none_a none_b none_c = absurd (false≢true (sym (none_a refl)))
-    by_tests false true c false none_a none_b none_c = absurd (false≢true (sym (none_b refl)))
-    by_tests false false true false none_a none_b none_c = absurd (false≢true (sym (none_c refl)))
-    by_tests false false false false none_a none_b none_c = refl
-
-pub efficient-byte : (sample : List ℕ) (size k : ℕ) → 8 * k < size + 10 → byte_from (efficient_bit sample size) k
-    ≡ front_of (size + 10 - 8 * k) (byte_from (endless_bit sample) k)
-efficient-byte sample size k lt =
-    same_byte (efficient_bit sample size) (first_bits (size + 10) (endless_bit sample)) k k
-    (efficient_here sample size (8 * k)) (λ j. efficient_here sample size (8 * k + j))
-    ∙ front-byte (size + 10) k (endless_bit sample) (endless_small sample) lt
-
--- its first two bytes, and the others
-endless_first : (sample : List ℕ) → byte_from (endless_bit sample) 0 ≡ 240 + get_or sample 0 0 / 16 % 8
-endless_first sample = omega arith
-
-pub efficient-first : (sample : List ℕ) (size : ℕ) → byte_from (efficient_bit sample size) 0
-    ≡ 240 + get_or sample 0 0 / 16 % 8
-efficient-first sample size = efficient-byte sample size 0 (omega arith)
-    ∙ sym (whole (240 + get_or sample 0 0 / 16 % 8) (byte_from (endless_bit sample) 0) (size + 10 - 8 * 0) (omega arith)
-    (sym (endless_first sample)))
-
-pub endless-second : (sample : List ℕ) → get_or sample 1 0 < 256
-    → byte_from (endless_bit sample) 1 ≡ get_or sample 0 0 / 4 % 4 * 64 + get_or sample 1 0 / 4
-endless-second sample small = omega arith
-
-endless_past : (sample : List ℕ) (i : ℕ) → 10 ≤ i → endless_bit sample i ≡ bit_of sample (i - 2)
-endless_past sample i le = by_tests (ltb i 4) (eqb i 4) (ltb i 10) (grind (arith, nat_tests)) (grind (arith, nat_tests))
-    (grind (arith, nat_tests))
-  where
-    by_tests : (a b c : Bool) → a ≡ false → b ≡ false → c ≡ false
-        → (if a then 1 else (if b then 0 else (if c then bit_of sample (i - 4) else bit_of sample (i - 2))))
-        ≡ bit_of sample (i - 2)
-    by_tests true b c no_a no_b no_c = absurd (false≢true (sym no_a))
-    by_tests false true c no_a no_b no_c = absurd (false≢true (sym no_b))
-    by_tests false false true no_a no_b no_c = absurd (false≢true (sym no_c))
-    by_tests false false false no_a no_b no_c = refl
-
-pub endless-later : (sample : List ℕ) (k : ℕ) → 2 ≤ k → byte_from (endless_bit sample) k
-    ≡ byte_from (bits_from sample (8 * k - 2)) 0
-endless-later sample k le =
-    let e0 : 8 * k - 2 ≡ 8 * k - 2 + 8 * 0 = omega arith in
-    let e : (j : ℕ) → 8 * k + j - 2 ≡ 8 * k - 2 + (8 * 0 + j) = λ j. omega arith in
-    same_byte (endless_bit sample) (bits_from sample (8 * k - 2)) k 0
-    (endless_past sample (8 * k) (omega arith) ∙ ap (bit_of sample) e0)
-    (λ j. endless_past sample (8 * k + j) (omega arith) ∙ ap (bit_of sample) (e j))
-
 -- bytes of one bit string, if each is the same
 pub same-bytes : (bit other : ℕ → ℕ) (n : ℕ) → ((k : ℕ) → k < n → byte_from bit k ≡ byte_from other k)
     → bytes_from bit n ≡ bytes_from other n
@@ -329,6 +260,16 @@ speech-filled bytes place size some =
     ∙ ap (λ xs. xs ++ byte_from (field_of bytes place size) (size / 8) ∷ [])
     (same-bytes (field_of bytes place size) (bits_from bytes place) (size / 8) (speech_byte bytes place size))
 
+-- an octet of the text
+pub octet-here : (bytes : List ℕ) (place o : ℕ) → place ≡ 8 * o → ((k : ℕ) → get_or bytes k 0 < 256)
+    → byte_from (bits_from bytes place) 0 ≡ get_or bytes o 0
+octet-here bytes place o is small =
+    byte-here bytes place o 0 (omega arith) (omega arith) (small o) (small (o + 1))
+    ∙ high (get_or bytes o 0) (get_or bytes (o + 1) 0) (small o) (small (o + 1))
+  where
+    high : (a b : ℕ) → a < 256 → b < 256 → (a * 256 + b) / 2 ^ 8 % 256 ≡ a
+    high a b lt lt' = omega arith
+
 -- octets that are copied
 pub octets : (bytes : List ℕ) (place o n : ℕ) → place ≡ 8 * o → o + n ≤ length bytes
     → ((k : ℕ) → get_or bytes k 0 < 256) → take n (drop o bytes) ≡ bytes_from (bits_from bytes place) n
@@ -336,7 +277,7 @@ octets bytes place o n is room small = ext_get_or 0 (take n (drop o bytes)) (byt
     (taken ∙ sym (length-map-range_with_len (byte_from (bits_from bytes place)) 0 n))
     (λ i lt.
     get_or-take n (drop o bytes) i 0 (omega (arith, lt, taken)) ∙ get_or-drop o bytes i 0
-    ∙ sym (here i)
+    ∙ sym (byte-after bytes place i ∙ octet-here bytes (place + 8 * i) (o + i) (omega arith) small)
     ∙ sym (get_or-map-range_with_len (byte_from (bits_from bytes place)) 0 n i i 0 (omega (
       arith,
       lt,
@@ -345,14 +286,6 @@ octets bytes place o n is room small = ext_get_or 0 (take n (drop o bytes)) (byt
   where
     taken : length (take n (drop o bytes)) ≡ n
     taken = omega (arith, length-take n (drop o bytes), length-drop o bytes)
-
-    high : (a b : ℕ) → a < 256 → b < 256 → (a * 256 + b) / 2 ^ 8 % 256 ≡ a
-    high a b lt lt' = omega arith
-
-    here : (i : ℕ) → byte_from (bits_from bytes place) i ≡ get_or bytes (o + i) 0
-    here i = byte-after bytes place i
-        ∙ byte-here bytes (place + 8 * i) (o + i) 0 (omega arith) (omega arith) (small (o + i)) (small (o + i + 1))
-        ∙ high (get_or bytes (o + i) 0) (get_or bytes (o + i + 1) 0) (small (o + i)) (small (o + i + 1))
 
 -- the octets of a text are below 256, and 0 after it
 pub octet-small : (bytes : List ℕ) → ((k : ℕ) → Fits w8 (get_or bytes k 0)) → (k : ℕ) → get_or bytes k 0 < 256

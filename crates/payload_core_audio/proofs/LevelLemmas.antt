@@ -11,7 +11,7 @@ use Rattle.payload_core_audio.specs.RedSending.{fits}
 use Rattle.payload_core_audio.specs.RedWrapping.{level, levels}
 
 -- one distance more
-levels-more : (h : List Kept) (ds : List ℕ) (time i : ℕ) → i < length ds → levels h (take (i + 1) ds) time
+pub levels-more : (h : List Kept) (ds : List ℕ) (time i : ℕ) → i < length ds → levels h (take (i + 1) ds) time
     ≡ levels h (take i ds) time ++ filter fits (cons_option (level h time (get_or ds i 0)) [])
 levels-more h ds time i lt =
     let before : List ℕ = take i ds in

@@ -5,12 +5,15 @@ pub mod AmrWbLemmas
 pub mod BitLemmas
 pub mod CountLemmas
 pub mod DistanceLemmas
+pub mod EfficientLemmas
 pub mod FitLemmas
+pub mod KeepLemmas
 pub mod LayoutLemmas
 pub mod LevelLemmas
 pub mod PlainLemmas
 pub mod PrefixLemmas
 pub mod RedLawLemmas
+pub mod RepeatLemmas
 pub mod SoundLemmas
 pub mod TelephoneLaw
 pub mod WrapLemmas

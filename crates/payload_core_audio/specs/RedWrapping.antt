@@ -1,6 +1,6 @@
 -- Which payloads are repeated beside a new one (RFC 2198).
-use Rattle.std.specs.Prelude.{◌≡◌, ℕ, ◌+◌, ◌-◌, ◌%◌, ◌^◌, ◌<◌, ◌≤◌, List, Option, filter, filter_map, length, map}
-use Rattle.std.specs.Prelude.{option_map, reverse, slice_get, sum_by, take}
+use Rattle.std.specs.Prelude.{◌≡◌, ℕ, ◌+◌, ◌-◌, ◌%◌, ◌^◌, ◌<◌, ◌≤◌, List, ◌++◌, Option, filter, filter_map, length}
+use Rattle.std.specs.Prelude.{map, option_map, reverse, slice_get, sum_by, take}
 use Rattle.payload_core_audio.specs.Red.{Block, IsRed}
 use Rattle.payload_core_audio.specs.RedHistory.{Kept, Redundancy}
 use Rattle.payload_core_audio.specs.RedSending.{fits, masked}
@@ -38,3 +38,10 @@ pub record IsWrapped (r : Redundancy) (pt : ℕ) (payload : List ℕ) (time budg
 pub record IsWrap (r : Redundancy) (pt : ℕ) (payload : List ℕ) (time budget : ℕ) (sent : List ℕ) : Type 0 where
   pub wrapped : length payload + 1 ≤ budget → IsWrapped r pt payload time budget sent
   pub unwrapped : budget < length payload + 1 → sent ≡ payload
+
+-- What is sent for a payload, with these bytes in front of it.
+pub record IsWrapWith (prefix : List ℕ) (r : Redundancy) (pt : ℕ) (payload : List ℕ) (time budget : ℕ)
+    (packet : List ℕ) : Type 0 where
+  pub sent : List ℕ
+  pub is_wrap : IsWrap r pt payload time budget sent
+  pub packet_is : packet ≡ prefix ++ sent

@@ -9,7 +9,7 @@ ghost use Rattle.std.specs.Prelude.{◌≡◌, ◌≢◌, ◌+◌, ◌*◌, ◌/
 ghost use Rattle.std.specs.Prelude.{None, Some, false, length, true, ℕ};
 
 use crate::bits::{BitPlace, octet_at};
-use crate::field::{front_of, header_at, push_speech};
+use crate::field::{front_of, header_at, push_sample_speech, push_speech};
 use payload_core_base::{CodecExtra, Depacketizer, PacketError, Packetizer};
 use std::alloc::{AllocError, Global};
 
@@ -168,20 +168,21 @@ impl Depacketizer for AmrWbDepacketizer {
     }
 }
 
-/// Byte `k` of a bandwidth-efficient packet: 1111, F clear, FT, Q, the speech bits, and zeros.
-fn efficient_byte(bytes: &[u8], size: usize, k: usize) -> u8
-    requires few { (8 * k < size + 10) × (size ≤ 477) }
+/// Writes a bandwidth-efficient packet: 1111, F clear, FT, Q, the speech bits, and zeros.
+fn write_efficient(bytes: &[u8], size: usize, out: &mut [u8])
+    requires few { size ≤ 477 }
     requires room { 8 + size ≤ 8 * length bytes.now }
-    ensures { result ≡ byte_from (efficient_bit bytes.now size) k }
+    requires len { length out.old ≡ (size + 17) / 8 }
+    ensures { out.new ≡ amr_wb_packet false bytes.now size }
 {
-    if k == 0 {
-        return 240 + bytes[0] / 16 % 8;
+    out[0] = 240 + bytes[0] / 16 % 8;
+    let mut left = bytes[0] / 4 % 4;
+    let last = out.len() - 1;
+    for k in 1..last {
+        out[k] = left * 64 + bytes[k] / 4;
+        left = bytes[k] % 4;
     }
-    let left = size + 10 - 8 * k;
-    if k == 1 {
-        return front_of(left, bytes[0] / 4 % 4 * 64 + octet_at(bytes, 1) / 4);
-    }
-    front_of(left, BitPlace::at(8 * k - 2).byte(bytes))
+    out[last] = front_of(size + 10 - 8 * last, left * 64 + octet_at(bytes, last) / 4);
 }
 
 /// How many bytes the packet of a sample with so many speech bits has.
@@ -196,47 +197,63 @@ fn packet_len(octet_align: bool, size: usize) -> usize
     }
 }
 
-/// The packet of a sample with so many speech bits in the octet-aligned layout.
-fn aligned_packet(alloc: Global, bytes: &[u8], size: usize) -> Result<Vec<u8>, AllocError>
+/// The packet of a sample with so many speech bits in the octet-aligned layout, after the prefix.
+fn aligned_packet(
+    alloc: Global,
+    prefix: &[u8],
+    bytes: &[u8],
+    size: usize,
+) -> Result<Vec<u8>, AllocError>
     requires few { size ≤ 477 }
     requires room { 8 + size ≤ 8 * length bytes.now }
-    ensures { IfOk result (λ v. v.items ≡ amr_wb_packet true bytes.now size) }
+    ensures { IfOk result (λ v. v.items ≡ prefix.now ++ amr_wb_packet true bytes.now size) }
 {
-    let mut packet = Vec::with_capacity(alloc, packet_len(true, size))?;
+    let mut packet = Vec::with_capacity(
+        alloc,
+        prefix.len().saturating_add(packet_len(true, size)),
+    )?;
+    packet.extend_from_slice(prefix)?;
     packet.push(0xF0)?;
     packet.push(header_at(bytes, BitPlace::at(0)))?;
-    push_speech(bytes, BitPlace::at(8), size, &mut packet)?;
+    push_sample_speech(bytes, size, &mut packet)?;
     Ok(packet)
 }
 
-/// The packet of a sample with so many speech bits in the bandwidth-efficient layout.
-fn efficient_packet(alloc: Global, bytes: &[u8], size: usize) -> Result<Vec<u8>, AllocError>
+/// The packet of a sample with so many speech bits in the bandwidth-efficient layout, after the prefix.
+fn efficient_packet(
+    alloc: Global,
+    prefix: &[u8],
+    bytes: &[u8],
+    size: usize,
+) -> Result<Vec<u8>, AllocError>
     requires few { size ≤ 477 }
     requires room { 8 + size ≤ 8 * length bytes.now }
-    ensures { IfOk result (λ v. v.items ≡ amr_wb_packet false bytes.now size) }
+    ensures { IfOk result (λ v. v.items ≡ prefix.now ++ amr_wb_packet false bytes.now size) }
 {
-    let mut packet = Vec::with_capacity(alloc, packet_len(false, size))?;
-    for k in 0..(size + 17) / 8 {
-        packet.push(efficient_byte(bytes, size, k))?;
-    }
+    let len = packet_len(false, size);
+    let mut packet = Vec::with_capacity(alloc, prefix.len().saturating_add(len))?;
+    packet.extend_from_slice(prefix)?;
+    packet.resize(prefix.len() + len, 0)?;
+    write_efficient(bytes, size, &mut packet[prefix.len()..]);
     Ok(packet)
 }
 
-/// The packet of a sample with so many speech bits.
+/// The packet of a sample with so many speech bits, after the prefix.
 fn packet_of(
     alloc: Global,
+    prefix: &[u8],
     octet_align: bool,
     bytes: &[u8],
     size: usize,
 ) -> Result<Vec<u8>, AllocError>
     requires few { size ≤ 477 }
     requires room { 8 + size ≤ 8 * length bytes.now }
-    ensures { IfOk result (λ v. v.items ≡ amr_wb_packet octet_align bytes.now size) }
+    ensures { IfOk result (λ v. v.items ≡ prefix.now ++ amr_wb_packet octet_align bytes.now size) }
 {
     if octet_align {
-        return aligned_packet(alloc, bytes, size);
+        return aligned_packet(alloc, prefix, bytes, size);
     }
-    efficient_packet(alloc, bytes, size)
+    efficient_packet(alloc, prefix, bytes, size)
 }
 
 /// Sends each AMR-WB sample, a header byte and its speech bytes, as one packet (RFC 4867 4.3 and 4.4).
@@ -259,15 +276,15 @@ impl Packetizer for AmrWbPacketizer {
 
     ghost sender = { λ _. idle_sender };
 
-    fn packetize(
+    fn packetize_with_prefix(
         &mut self,
         alloc: Global,
+        prefix: &[u8],
         mtu: usize,
         bytes: &[u8],
     ) -> Result<Vec<Vec<u8>>, PacketError> {
-        let mut packets = Vec::new(alloc);
         if bytes.is_empty() {
-            return Ok(packets);
+            return Ok(Vec::new(alloc));
         }
         let Some(size) = sample_size(bytes) else {
             return Err(PacketError::ErrAmrWbCorruptedPacket);
@@ -275,7 +292,8 @@ impl Packetizer for AmrWbPacketizer {
         if packet_len(self.octet_align, size) > mtu {
             return Err(PacketError::ErrPayloadTooLarge);
         }
-        packets.push(packet_of(alloc, self.octet_align, bytes, size)?)?;
+        let mut packets = Vec::with_capacity(alloc, 1)?;
+        packets.push(packet_of(alloc, prefix, self.octet_align, bytes, size)?)?;
         Ok(packets)
     }
 

@@ -1,23 +1,40 @@
 //! Cutting and reading payloads without a header of their own.
 
+ghost use Rattle.payload_core_base.specs.Packing.{SendsWith, with_prefix};
 ghost use Rattle.payload_core_base.specs.Pieces.{pieces};
 ghost use Rattle.payload_core_audio.specs.Plain.{is_one_piece, pack_whole};
-ghost use Rattle.payload_core_base.specs.Stateless.{idle_sender, sent_as};
-ghost use Rattle.std.specs.Prelude.{◌≡◌, ◌≢◌, ◌∷◌, [], Err, IfErr, IfOk, map, true};
+ghost use Rattle.payload_core_base.specs.Stateless.{idle_sender};
+ghost use Rattle.std.specs.Prelude.{◌≡◌, ◌≢◌, ◌∷◌, ◌++◌, [], Err, IfErr, IfOk, map, true};
 
 use payload_core_base::PacketError;
 use std::alloc::{AllocError, Global};
 
-/// The pieces of a sample at a limit.
-pub fn cut(alloc: Global, limit: usize, bytes: &[u8]) -> Result<Vec<Vec<u8>>, AllocError>
-    ensures { IfOk result (λ ps. map (λ p. p.items) ps.items ≡ pieces limit bytes.now) }
+/// Bytes after a prefix.
+pub fn after_prefix(alloc: Global, prefix: &[u8], bytes: &[u8]) -> Result<Vec<u8>, AllocError>
+    ensures { IfOk result (λ p. p.items ≡ prefix.now ++ bytes.now) }
+{
+    let mut packet = Vec::with_capacity(alloc, prefix.len().saturating_add(bytes.len()))?;
+    packet.extend_from_slice(prefix)?;
+    packet.extend_from_slice(bytes)?;
+    Ok(packet)
+}
+
+/// The pieces of a sample at a limit, each after the prefix.
+pub fn cut(
+    alloc: Global,
+    prefix: &[u8],
+    limit: usize,
+    bytes: &[u8],
+) -> Result<Vec<Vec<u8>>, AllocError>
+    ensures { IfOk result (λ ps. map (λ p. p.items) ps.items
+        ≡ with_prefix prefix.now (pieces limit bytes.now)) }
 {
     if limit == 0 {
         return Ok(Vec::new(alloc));
     }
     let mut packets = Vec::with_capacity(alloc, bytes.len().div_ceil(limit))?;
     for piece in bytes.chunks(limit) {
-        packets.push(Vec::from_slice(alloc, piece)?)?;
+        packets.push(after_prefix(alloc, prefix, piece)?)?;
     }
     Ok(packets)
 }
@@ -31,10 +48,15 @@ pub fn is_one_piece(limit: usize, bytes: &[u8]) -> bool
     !bytes.is_empty() && bytes.len() <= limit
 }
 
-/// The one packet of a sample that isn't cut; none of an empty sample.
-pub fn whole(alloc: Global, limit: usize, bytes: &[u8]) -> Result<Vec<Vec<u8>>, PacketError>
-    ensures packets { IfOk result (λ ps. pack_whole idle_sender limit bytes.now
-        ≡ sent_as idle_sender (map (λ p. p.items) ps.items)) }
+/// The one packet of a sample that isn't cut, after the prefix; none of an empty sample.
+pub fn whole(
+    alloc: Global,
+    prefix: &[u8],
+    limit: usize,
+    bytes: &[u8],
+) -> Result<Vec<Vec<u8>>, PacketError>
+    ensures packets { IfOk result (λ ps. SendsWith prefix.now (pack_whole idle_sender limit bytes.now)
+        (map (λ p. p.items) ps.items) idle_sender) }
     ensures refused { IfErr result (λ e. e ≢ PacketError.Memory → pack_whole idle_sender limit bytes.now ≡ Err e) }
 {
     if bytes.is_empty() {
@@ -44,6 +66,6 @@ pub fn whole(alloc: Global, limit: usize, bytes: &[u8]) -> Result<Vec<Vec<u8>>, 
         return Err(PacketError::ErrPayloadTooLarge);
     }
     let mut packets = Vec::with_capacity(alloc, 1)?;
-    packets.push(Vec::from_slice(alloc, bytes)?)?;
+    packets.push(after_prefix(alloc, prefix, bytes)?)?;
     Ok(packets)
 }

@@ -69,3 +69,15 @@ pub fn push_speech(
     }
     Ok(())
 }
+
+/// Appends the speech of a sample, which begins with its second byte, filled up with zeros to whole bytes.
+pub fn push_sample_speech(bytes: &[u8], size: usize, out: &mut Vec<u8>) -> Result<(), AllocError>
+    requires { 8 + size ≤ 8 * length bytes.now }
+    ensures { OnOk result (out.new.items ≡ out.old.items ++ speech_of bytes.now 8 size) }
+{
+    out.extend_from_slice(&bytes[1..size / 8 + 1])?;
+    if size % 8 > 0 {
+        out.push(front_of(size % 8, bytes[size / 8 + 1]))?;
+    }
+    Ok(())
+}

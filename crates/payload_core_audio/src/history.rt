@@ -5,10 +5,14 @@ ghost use Rattle.payload_core_audio.specs.RedHistory.{kept_of};
 ghost use Rattle.payload_core_audio.specs.RedSending.{masked};
 ghost use Rattle.payload_core_audio.specs.RedViews.{old_block};
 ghost use Rattle.payload_core_audio.specs.RedWrapping.{IsLongestPrefix, level, levels};
-ghost use Rattle.std.specs.Prelude.{◌≡◌, ◌+◌, ◌<◌, ◌≤◌, All, IfOk, length, map, option_map};
+ghost use Rattle.std.specs.Prelude.{◌≡◌, ◌+◌, ◌<◌, ◌≤◌, ◌∷◌, All, IfOk, OnErr, OnOk, length, map, option_map};
+ghost use Rattle.std.specs.Prelude.{take};
 
 use crate::spelling::{OldPayload, fields_fit};
 use std::alloc::{AllocError, Global};
+
+/// How many payloads are kept.
+pub const DEPTH: usize = 8;
 
 /// A payload that was wrapped.
 pub struct KeptPayload {
@@ -28,8 +32,48 @@ impl Drop for KeptPayload {
     }
 }
 
+impl KeptPayload {
+    /// Becomes another payload, in the same memory if it is enough.
+    fn refill(&mut self, pt: u8, time: u32, payload: &[u8]) -> Result<(), AllocError>
+        ensures refilled { OnOk result (kept_of self.new ≡ record { pt = pt; time = time; payload = payload.now }) }
+        ensures unchanged { OnErr result (kept_of self.new ≡ kept_of self.old) }
+    {
+        self.payload
+            .reserve(payload.len().saturating_sub(self.payload.len()))?;
+        self.payload.clear();
+        self.payload.extend_from_slice(payload)?;
+        self.pt = pt;
+        self.time = time;
+        Ok(())
+    }
+}
+
+/// Puts a payload in front of the history, of which the newest eight stay. The memory of the oldest is used again.
+pub fn keep(
+    history: &mut Vec<KeptPayload>,
+    pt: u8,
+    time: u32,
+    payload: &[u8],
+) -> Result<(), AllocError>
+    ensures kept { OnOk result (map kept_of history.new.items
+        ≡ take 8 (record { pt = pt; time = time; payload = payload.now } ∷ map kept_of history.old.items)) }
+    ensures unchanged { OnErr result (map kept_of history.new.items ≡ map kept_of history.old.items) }
+{
+    if history.len() < DEPTH {
+        let payload = Vec::from_slice(*history.allocator(), payload)?;
+        history.insert(0, KeptPayload { pt, time, payload })?;
+        return Ok(());
+    }
+    history[DEPTH - 1].refill(pt, time, payload)?;
+    history.truncate(DEPTH);
+    if let Some(newest) = history.pop() {
+        history.insert(0, newest)?;
+    }
+    Ok(())
+}
+
 /// The payload that was wrapped so many calls before.
-fn level(history: &[KeptPayload], time: u32, distance: u32) -> Option<OldPayload<'_>>
+pub fn level(history: &[KeptPayload], time: u32, distance: u32) -> Option<OldPayload<'_>>
     requires { 0 < distance }
     ensures { option_map old_block result ≡ level (map kept_of history.now) time distance }
 {

@@ -14,6 +14,7 @@ mod field;
 mod history;
 mod plain;
 mod red_laws;
+mod repeated;
 mod sender;
 mod sink;
 mod spelling;

@@ -41,13 +41,14 @@ impl Packetizer for PlainPacketizer {
 
     ghost sender = { λ _. idle_sender };
 
-    fn packetize(
+    fn packetize_with_prefix(
         &mut self,
         alloc: Global,
+        prefix: &[u8],
         mtu: usize,
         bytes: &[u8],
     ) -> Result<Vec<Vec<u8>>, PacketError> {
-        Ok(cut(alloc, mtu, bytes)?)
+        Ok(cut(alloc, prefix, mtu, bytes)?)
     }
 
     fn is_marker(&mut self, _bytes: &[u8], _previous: Option<&[u8]>, _last: bool) -> bool {

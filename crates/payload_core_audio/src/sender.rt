@@ -1,16 +1,15 @@
 //! Sending each payload with older ones (RFC 2198).
 
 ghost use Rattle.payload_core_audio.specs.RedHistory.{AreDistances, keeping};
-ghost use Rattle.payload_core_audio.specs.RedWrapping.{IsWrap};
+ghost use Rattle.payload_core_audio.specs.RedWrapping.{IsWrap, IsWrapWith};
 ghost use Rattle.std.specs.Prelude.{◌≡◌, ◌<◌, ◌∷◌, ◌↔◌, [], IfOk, IsTrue, OnErr, OnOk, drop, length, take};
 
-use crate::history::{KeptPayload, levels, longest_prefix};
+use crate::cut::after_prefix;
+use crate::history::{DEPTH, KeptPayload, keep, levels, longest_prefix};
+use crate::repeated::{push_headers, push_payloads, reach};
 use crate::spelling::spell;
 use std::alloc::{AllocError, Global};
 use std::marker::Model;
-
-// How many payloads are kept.
-const DEPTH: usize = 8;
 
 // The distance of the oldest of them.
 const GREATEST_DISTANCE: u32 = 8;
@@ -107,6 +106,32 @@ impl RedSender {
         spell(alloc, &olds, pt, payload)
     }
 
+    /// What is sent for a payload, after the prefix.
+    fn wrapped_with_prefix(
+        &self,
+        prefix: &[u8],
+        pt: u8,
+        payload: &[u8],
+        time: u32,
+        budget: usize,
+    ) -> Result<Vec<u8>, AllocError>
+        ensures { IfOk result (λ sent. IsWrapWith prefix.now self.now pt payload.now time budget sent.items) }
+    {
+        let alloc = *self.history.allocator();
+        if payload.len() >= budget {
+            return after_prefix(alloc, prefix, payload);
+        }
+        let (count, len) = reach(&self.history, &self.distances, time, payload.len(), budget);
+        let distances = &self.distances[..count];
+        let mut packet = Vec::with_capacity(alloc, prefix.len().saturating_add(len))?;
+        packet.extend_from_slice(prefix)?;
+        push_headers(&self.history, distances, time, &mut packet)?;
+        packet.push(pt % 128)?;
+        push_payloads(&self.history, distances, time, &mut packet)?;
+        packet.extend_from_slice(payload)?;
+        Ok(packet)
+    }
+
     /// What is sent for a payload, which is put at the front of the history until `settle` or
     /// `forget`.
     pub(crate) fn prepare(
@@ -167,6 +192,29 @@ impl RedSender {
     {
         let sent = self.prepare(pt, payload, time, budget)?;
         self.settle();
+        Ok(sent)
+    }
+
+    /// The packet that `wrap` makes for a payload, with these bytes in front of it, such as a header; the payload is
+    /// kept as `wrap` keeps it. The budget counts the packet without them.
+    ///
+    /// # Errors
+    /// `AllocError`, which changes nothing.
+    pub fn wrap_with_prefix(
+        &mut self,
+        prefix: &[u8],
+        pt: u8,
+        payload: &[u8],
+        time: u32,
+        budget: usize,
+    ) -> Result<Vec<u8>, AllocError>
+        ensures wrapped { IfOk result (λ sent.
+            IsWrapWith prefix.now self.old pt payload.now time budget sent.items) }
+        ensures kept { OnOk result (self.new ≡ keeping self.old pt payload.now time) }
+        ensures unchanged { OnErr result (self.new ≡ self.old) }
+    {
+        let sent = self.wrapped_with_prefix(prefix, pt, payload, time, budget)?;
+        keep(&mut self.history, pt, time, payload)?;
         Ok(sent)
     }
 }

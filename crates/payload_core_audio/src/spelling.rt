@@ -26,7 +26,7 @@ pub fn fields_fit(timestamp_offset: u32, payload: &[u8]) -> bool
 }
 
 /// Writes the header of a block.
-fn push_header(packet: &mut Vec<u8>, block: &OldPayload<'_>) -> Result<(), AllocError>
+pub fn push_header(packet: &mut Vec<u8>, block: &OldPayload<'_>) -> Result<(), AllocError>
     requires { HasRoom (masked (old_block block.now)) }
     ensures { OnOk result (packet.new.items ≡ packet.old.items ++ header (masked (old_block block.now))) }
 {

@@ -29,16 +29,17 @@ impl Packetizer for TelephoneEventPacketizer {
 
     ghost sender = { λ _. idle_sender };
 
-    fn packetize(
+    fn packetize_with_prefix(
         &mut self,
         alloc: Global,
+        prefix: &[u8],
         mtu: usize,
         bytes: &[u8],
     ) -> Result<Vec<Vec<u8>>, PacketError> {
         if bytes.len() % 4 != 0 {
             return Err(PacketError::InvalidTelephoneEvent);
         }
-        whole(alloc, mtu, bytes)
+        whole(alloc, prefix, mtu, bytes)
     }
 
     fn is_marker(&mut self, _bytes: &[u8], _previous: Option<&[u8]>, _last: bool) -> bool {

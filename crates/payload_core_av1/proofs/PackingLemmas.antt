@@ -1,10 +1,11 @@
 -- Packets of texts, one step at a time.
 use Rattle.std.proofs.Common.{◌≡◌, ℕ, zero, suc, ◌+◌, ◌-◌, ◌<◌, ◌≤◌, Bool, true, false, ltb, leb, List, [], ◌∷◌, ◌++◌}
-use Rattle.std.proofs.Common.{map, length, get_or, Bor, if◌then◌else◌, refl, sym, ap, subst, ◌∙◌, append_assoc, arith}
+use Rattle.std.proofs.Common.{length, get_or, if◌then◌else◌, refl, sym, ap, subst, ◌∙◌, append_assoc, arith}
 use Rattle.std.specs.Prelude.{◌||◌}
 use Rattle.std.proofs.lemmas.Bool.Decides.{nat_tests}
 use Rattle.std.proofs.lemmas.List.{append-nil}
 use Rattle.payload_core_base.specs.Law.{joined}
+use Rattle.payload_core_base.specs.Packing.{with_prefix}
 use Rattle.payload_core_av1.specs.Leb128.{size_limit, spelling}
 use Rattle.payload_core_av1.specs.Av1Packing.{back, body_from, front, is_cut, longest, packet_of, packets_within}
 use Rattle.payload_core_av1.specs.Av1Packing.{sized}
@@ -61,8 +62,8 @@ body-step place total e (f ∷ es) is =
     let t : ltb (place + 1) total ≡ true = grind (arith, nat_tests) in
     ap (λ t. (if t || leb 3 place then sized e else e) ++ body_from (place + 1) (f ∷ es)) t
 
-pub text-at : (es : List (Bor (List ℕ))) (k : ℕ) (none : Bor (List ℕ))
-    → AreTexts (map (λ (e : Bor (List ℕ)). e.now) es) → k < length es → length (get_or es k none).now < size_limit
+pub text-at : (es : List (List ℕ)) (k : ℕ) (none : List ℕ) → AreTexts es → k < length es
+    → length (get_or es k none) < size_limit
 text-at [] k none are lt = absurd (omega arith)
 text-at (e ∷ es) zero none are lt = are.1
 text-at (e ∷ es) (suc k) none are lt = text-at es k none are.2 (omega arith)
@@ -97,22 +98,22 @@ total-less limit (e ∷ es) room are some =
       are.0,
     )
 
-pub packets-go : (limit : ℕ) (z n : Bool) (texts packets : List (List ℕ)) → 2 ≤ limit → AreTexts texts
+pub packets-go : (prefix : List ℕ) (limit : ℕ) (z n : Bool) (texts packets : List (List ℕ)) → 2 ≤ limit → AreTexts texts
     → 0 < length texts
     → let size = longest limit texts in
-    (packets ++ packet_of z (is_cut size texts) n (front size texts) ∷ [])
-    ++ packets_within (length (joined (back size texts))) limit (is_cut size texts) false (back size texts)
-    ≡ packets ++ packets_within (length (joined texts)) limit z n texts
-packets-go limit z n [] packets room are some = absurd (omega arith)
-packets-go limit z n (e ∷ es) packets room are some =
+    (packets ++ (prefix ++ packet_of z (is_cut size texts) n (front size texts)) ∷ []) ++ with_prefix prefix
+    (packets_within (length (joined (back size texts))) limit (is_cut size texts) false (back size texts))
+    ≡ packets ++ with_prefix prefix (packets_within (length (joined texts)) limit z n texts)
+packets-go prefix limit z n [] packets room are some = absurd (omega arith)
+packets-go prefix limit z n (e ∷ es) packets room are some =
     let texts : List (List ℕ) = e ∷ es in
     let size : ℕ = longest limit texts in
     let y : Bool = is_cut size texts in
     let less = total-less limit texts room are some in
     let is : length (joined texts) ≡ suc (length (joined texts) - 1) = omega (arith, less) in
-    append_assoc packets (packet_of z y n (front size texts) ∷ [])
-    (packets_within (length (joined (back size texts))) limit y false (back size texts))
-    ∙ ap (λ ps. packets ++ packet_of z y n (front size texts) ∷ ps)
+    append_assoc packets ((prefix ++ packet_of z y n (front size texts)) ∷ [])
+    (with_prefix prefix (packets_within (length (joined (back size texts))) limit y false (back size texts)))
+    ∙ ap (λ ps. packets ++ (prefix ++ packet_of z y n (front size texts)) ∷ with_prefix prefix ps)
     (packets-same (length (joined (back size texts))) (length (joined texts) - 1) limit y false (back size texts)
     room (texts-back size texts are) (omega arith) (omega (arith, less)))
-    ∙ ap (λ k. packets ++ packets_within k limit z n texts) (sym is)
+    ∙ ap (λ k. packets ++ with_prefix prefix (packets_within k limit z n texts)) (sym is)

@@ -6,11 +6,13 @@ ghost use Rattle.payload_core_av1.specs.Leb128.{size_limit};
 ghost use Rattle.payload_core_av1.specs.Obus.{is_kept, obu as spec_obu};
 ghost use Rattle.payload_core_av1.specs.Av1Packets.{AreTexts, greatest_part};
 ghost use Rattle.payload_core_av1.specs.Samples.{begins_sequence, kept_of};
+ghost use Rattle.payload_core_base.specs.Packing.{with_prefix};
 ghost use Rattle.std.specs.Prelude.{◌≡◌, ◌≢◌, ◌+◌, ◌++◌, ◌<◌, ◌≤◌, ◌∷◌, if◌then◌else◌, [], false, ◌||◌, nat_le};
 ghost use Rattle.std.specs.Prelude.{nat_lt, filter, option_map, IfErr, IfOk, List, None, Some, map, length};
 
 use crate::leb128::{push_size, size_len};
 use crate::obu::{Obu, first_obu};
+use crate::obu_element::ObuElement;
 use payload_core_base::{PacketError, Packetizer};
 use std::alloc::{AllocError, Global};
 use std::collections::VecDeque;
@@ -28,6 +30,13 @@ const SIZE_ROOM: usize = 3;
 #[derive(Clone, Copy, Debug, Drop)]
 pub struct Av1Packetizer;
 
+// The texts of the units of a sample that are sent, and whether one of them is a sequence header.
+#[derive(Drop)]
+struct Kept<'a> {
+    texts: VecDeque<ObuElement<'a>>,
+    begins: bool,
+}
+
 /// How many bytes of the element at a place fit the room that is left.
 fn fitting(place: usize, room: usize, len: usize) -> usize
     requires { len < size_limit }
@@ -43,54 +52,52 @@ fn fitting(place: usize, room: usize, len: usize) -> usize
     part
 }
 
-/// Takes a part of a text as the last element, unless it is empty, and puts back what is after it.
+/// Takes the first `part` bytes of a text as the last element of a packet, if `part` is above 0, and puts back those
+/// after them; whether it is.
 fn cut_last<'a>(
     part: usize,
-    text: &'a [u8],
-    elements: Vec<&'a [u8]>,
-    texts: &mut VecDeque<&'a [u8]>,
-) -> Result<(Vec<&'a [u8]>, bool), AllocError>
-    requires { part < length text.now }
-    ensures elements { IfOk result (λ e. map (λ t. t.now) e.0.items ≡ map (λ t. t.now) elements.entry.items
-        ++ front part (text.now ∷ map (λ t. t.now) texts.old.items)) }
-    ensures cut { IfOk result (λ e. e.1 ≡ is_cut part (text.now ∷ map (λ t. t.now) texts.old.items)) }
-    ensures left { IfOk result (λ _. map (λ t. t.now) texts.new.items
-        ≡ back part (text.now ∷ map (λ t. t.now) texts.old.items)) }
+    text: ObuElement<'a>,
+    elements: &mut Vec<ObuElement<'a>>,
+    texts: &mut VecDeque<ObuElement<'a>>,
+) -> Result<bool, AllocError>
+    requires { part < length text }
+    ensures elements { IfOk result (λ _. elements.new.items
+        ≡ elements.old.items ++ front part (text.entry ∷ texts.old.items)) }
+    ensures cut { IfOk result (λ y. y ≡ is_cut part (text.entry ∷ texts.old.items)) }
+    ensures left { IfOk result (λ _. texts.new.items ≡ back part (text.entry ∷ texts.old.items)) }
 {
-    texts.push_front(&text[part..])?;
-    let mut elements = elements;
+    let (first, rest) = text.split_at(part);
+    texts.push_front(rest)?;
     if part > 0 {
-        elements.push(&text[..part])?;
+        elements.push(first)?;
     }
-    Ok((elements, part > 0))
+    Ok(part > 0)
 }
 
-/// The elements of the longest prefix of texts that fits the room, which are then gone, and whether the last one
-/// is cut.
-fn next_elements<'a>(
-    alloc: Global,
+/// Takes the longest prefix of texts that fits the room as the elements of a packet; whether the last one is cut.
+fn take_elements<'a>(
     room: usize,
-    texts: &mut VecDeque<&'a [u8]>,
-) -> Result<(Vec<&'a [u8]>, bool), AllocError>
-    requires { AreTexts (map (λ t. t.now) texts.old.items) }
-    ensures elements { IfOk result (λ e. map (λ t. t.now) e.0.items
-        ≡ front (longest (room + 1) (map (λ t. t.now) texts.old.items)) (map (λ t. t.now) texts.old.items)) }
-    ensures cut { IfOk result (λ e. e.1 ≡ is_cut (longest (room + 1) (map (λ t. t.now) texts.old.items))
-        (map (λ t. t.now) texts.old.items)) }
-    ensures left { IfOk result (λ _. map (λ t. t.now) texts.new.items
-        ≡ back (longest (room + 1) (map (λ t. t.now) texts.old.items)) (map (λ t. t.now) texts.old.items)) }
+    elements: &mut Vec<ObuElement<'a>>,
+    texts: &mut VecDeque<ObuElement<'a>>,
+) -> Result<bool, AllocError>
+    requires { AreTexts texts.old.items }
+    ensures elements { IfOk result (λ _. elements.new.items
+        ≡ front (longest (room + 1) texts.old.items) texts.old.items) }
+    ensures cut { IfOk result (λ y. y ≡ is_cut (longest (room + 1) texts.old.items) texts.old.items) }
+    ensures left { IfOk result (λ _. texts.new.items ≡ back (longest (room + 1) texts.old.items) texts.old.items) }
 {
-    let mut elements = Vec::new(alloc);
+    elements.clear();
     let mut left = room;
     while let Some(text) = texts.pop_front() {
-        let part = fitting(elements.len(), left, text.len());
-        if part < text.len() {
+        let len = text.len();
+        let part = fitting(elements.len(), left, len);
+        if part < len {
             return cut_last(part, text, elements, texts);
         }
-        left = left.saturating_sub(size_len(text.len()) + text.len());
+        left = left.saturating_sub(size_len(len) + len);
         elements.push(text)?;
     }
-    Ok((elements, false))
+    Ok(false)
 }
 
 /// The aggregation header of a packet.
@@ -113,7 +120,11 @@ fn has_size(place: usize, count: usize) -> bool
 }
 
 /// Writes an element, with its size in front or without.
-fn push_element(has_size: bool, element: &[u8], out: &mut Vec<u8>) -> Result<(), AllocError>
+fn push_element(
+    has_size: bool,
+    element: &ObuElement<'_>,
+    out: &mut Vec<u8>,
+) -> Result<(), AllocError>
     requires { length element.now < size_limit }
     ensures { IfOk result (λ _. out.new.items ≡ out.old.items
         ++ (if has_size then sized element.now else element.now)) }
@@ -121,26 +132,27 @@ fn push_element(has_size: bool, element: &[u8], out: &mut Vec<u8>) -> Result<(),
     if has_size {
         push_size(out, element.len())?;
     }
-    out.extend_from_slice(element)?;
-    Ok(())
+    element.push_to(out)
 }
 
-/// The packet of elements.
+/// The packet of elements, with these bytes in front.
 fn packet(
     alloc: Global,
+    prefix: &[u8],
     z: bool,
     y: bool,
     n: bool,
-    elements: &[&[u8]],
+    elements: &[ObuElement<'_>],
 ) -> Result<Vec<u8>, AllocError>
-    requires { AreTexts (map (λ e. e.now) elements.now) }
-    ensures { IfOk result (λ p. p.items ≡ packet_of z y n (map (λ e. e.now) elements.now)) }
+    requires { AreTexts elements.now }
+    ensures { IfOk result (λ p. p.items ≡ prefix.now ++ packet_of z y n elements.now) }
 {
-    let mut len = 1usize;
-    for text in elements {
-        len = len.saturating_add(text.len()).saturating_add(SIZE_ROOM);
+    let mut len = prefix.len().saturating_add(1);
+    for element in elements {
+        len = len.saturating_add(element.len()).saturating_add(SIZE_ROOM);
     }
     let mut packet = Vec::with_capacity(alloc, len)?;
+    packet.extend_from_slice(prefix)?;
     packet.push(aggregation(z, y, n, elements.len()))?;
     for (place, element) in elements.iter().enumerate() {
         push_element(has_size(place, elements.len()), element, &mut packet)?;
@@ -148,64 +160,57 @@ fn packet(
     Ok(packet)
 }
 
-/// The packets of texts.
+/// The packets of texts, with these bytes in front of each, in a list with room for `room`.
 fn packets(
     alloc: Global,
+    prefix: &[u8],
     limit: usize,
-    begins: bool,
-    texts: VecDeque<&[u8]>,
+    room: usize,
+    kept: Kept<'_>,
 ) -> Result<Vec<Vec<u8>>, AllocError>
     requires limit { 2 ≤ limit }
-    requires texts { AreTexts (map (λ t. t.now) texts.items) }
+    requires texts { AreTexts kept.texts.items }
     ensures { IfOk result (λ ps. map (λ p. p.items) ps.items
-        ≡ packets_of limit begins (map (λ t. t.now) texts.entry.items)) }
+        ≡ with_prefix prefix.now (packets_of limit kept.entry.begins kept.entry.texts.items)) }
 {
-    let mut texts = texts;
-    let mut packets = Vec::new(alloc);
+    let mut texts = kept.texts;
+    let mut packets = Vec::with_capacity(alloc, room)?;
+    let mut elements = Vec::new(alloc);
     let mut z = false;
-    let mut n = begins;
+    let mut n = kept.begins;
     while !texts.is_empty() {
-        let (elements, y) = next_elements(alloc, limit - 1, &mut texts)?;
-        packets.push(packet(alloc, z, y, n, &elements)?)?;
+        let y = take_elements(limit - 1, &mut elements, &mut texts)?;
+        packets.push(packet(alloc, prefix, z, y, n, &elements)?)?;
         z = y;
         n = false;
     }
     Ok(packets)
 }
 
-// The texts of the units of a sample that are sent, and whether one of them is a sequence header.
-#[derive(Drop)]
-struct Kept {
-    texts: Vec<Vec<u8>>,
-    begins: bool,
-}
-
 /// Keeps a unit, if it is sent.
-fn keep(alloc: Global, obu: &Obu<'_>, kept: &mut Kept) -> Result<(), AllocError>
+fn keep<'a>(obu: &Obu<'a>, kept: &mut Kept<'a>) -> Result<(), AllocError>
     ensures texts { let os = filter is_kept (spec_obu obu.now.header obu.now.extension obu.now.payload.now ∷ []) in
-        IfOk result (λ _. map (λ t. t.items) kept.new.texts.items ≡ map (λ t. t.items) kept.old.texts.items
-        ++ texts_of os) }
+        IfOk result (λ _. kept.new.texts.items ≡ kept.old.texts.items ++ texts_of os) }
     ensures begins { let os = filter is_kept (spec_obu obu.now.header obu.now.extension obu.now.payload.now ∷ []) in
         IfOk result (λ _. kept.new.begins ≡ (kept.old.begins || begins_sequence os)) }
 {
     if !obu.is_kept() {
         return Ok(());
     }
-    kept.texts.push(obu.without_its_size(alloc)?)?;
+    kept.texts.push_back(ObuElement::whole(obu))?;
     kept.begins = kept.begins || obu.is_sequence_header();
     Ok(())
 }
 
 /// The units of a sample that are sent.
-fn kept_of(alloc: Global, sample: &[u8]) -> Result<Kept, PacketError>
-    ensures texts { IfOk result (λ k. option_map texts_of (kept_of sample.now)
-        ≡ Some (map (λ t. t.items) k.texts.items)) }
+fn kept_of(alloc: Global, sample: &[u8]) -> Result<Kept<'_>, PacketError>
+    ensures texts { IfOk result (λ k. option_map texts_of (kept_of sample.now) ≡ Some k.texts.items) }
     ensures begins { IfOk result (λ k. option_map begins_sequence (kept_of sample.now) ≡ Some k.begins) }
     ensures refused { IfErr result (λ e. e ≢ PacketError.Memory → (e ≡ PacketError.ErrAv1CorruptedPacket)
         × (kept_of sample.now ≡ None)) }
 {
     let mut kept = Kept {
-        texts: Vec::new(alloc),
+        texts: VecDeque::new(alloc),
         begins: false,
     };
     let mut rest = sample;
@@ -213,7 +218,7 @@ fn kept_of(alloc: Global, sample: &[u8]) -> Result<Kept, PacketError>
         let Some((obu, behind)) = first_obu(rest) else {
             return Err(PacketError::ErrAv1CorruptedPacket);
         };
-        keep(alloc, &obu, &mut kept)?;
+        keep(&obu, &mut kept)?;
         rest = behind;
     }
     Ok(kept)
@@ -228,25 +233,15 @@ impl Av1Packetizer {
     }
 }
 
-/// The texts as slices.
-fn slices(alloc: Global, texts: &[Vec<u8>]) -> Result<VecDeque<&[u8]>, AllocError>
-    ensures { IfOk result (λ q. map (λ t. t.now) q.items ≡ map (λ t. t.items) texts.now) }
-{
-    let mut slices = VecDeque::new(alloc);
-    for text in texts {
-        slices.push_back(text.as_slice())?;
-    }
-    Ok(slices)
-}
-
 impl Packetizer for Av1Packetizer {
     ghost packing = { λ _. av1_packing };
 
     ghost sender = { λ _. record { number = 0; waiting = [] } };
 
-    fn packetize(
+    fn packetize_with_prefix(
         &mut self,
         alloc: Global,
+        prefix: &[u8],
         mtu: usize,
         bytes: &[u8],
     ) -> Result<Vec<Vec<u8>>, PacketError> {
@@ -257,8 +252,8 @@ impl Packetizer for Av1Packetizer {
         if mtu < 2 {
             return Ok(Vec::new(alloc));
         }
-        let texts = slices(alloc, &kept.texts)?;
-        Ok(packets(alloc, mtu, kept.begins, texts)?)
+        let room = bytes.len() / mtu + 1;
+        Ok(packets(alloc, prefix, mtu, room, kept)?)
     }
 
     fn is_marker(&mut self, _bytes: &[u8], _previous: Option<&[u8]>, last: bool) -> bool {

@@ -7,6 +7,7 @@ mod av1_sender;
 mod laws;
 mod leb128;
 mod obu;
+mod obu_element;
 
 pub use av1_receiver::{Av1Depacketizer, detect_av1_keyframe};
 pub use av1_sender::Av1Packetizer;

@@ -3,14 +3,14 @@
 ghost use Rattle.payload_core_av1.specs.Obus.{extension_bytes, first_obu, has_extension, has_size, if_small};
 ghost use Rattle.payload_core_av1.specs.Obus.{is_kept};
 ghost use Rattle.payload_core_av1.specs.Obus.{obu, obu_cut, obu_of, payload_in, payload_limit, whole_obu};
-ghost use Rattle.payload_core_av1.specs.Obus.{with_its_size, with_size, without_its_size, without_size};
+ghost use Rattle.payload_core_av1.specs.Obus.{with_its_size, with_size, without_size};
 ghost use Rattle.payload_core_av1.specs.Av1ReadingViews.{Keeps};
 ghost use Rattle.payload_core_av1.specs.Samples.{is_sequence_header};
 ghost use Rattle.std.specs.Prelude.{◌≡◌, ◌+◌, ◌++◌, ◌∷◌, ◌<◌, ◌≤◌, IfOk, IfSome, MatchOption, None, Some};
 ghost use Rattle.std.specs.Prelude.{length};
 
 use crate::leb128::{push_size, sized_part};
-use std::alloc::{AllocError, Global};
+use std::alloc::AllocError;
 
 // Payloads below this, 2^56 - 2 bytes, have sizes that are spelled in eight bytes, header included.
 const PAYLOAD_LIMIT: usize = 72_057_594_037_927_934;
@@ -48,7 +48,7 @@ fn with_size(header: u8) -> u8
 }
 
 /// The header byte without S.
-fn without_size(header: u8) -> u8
+pub fn without_size(header: u8) -> u8
     ensures { result ≡ without_size header }
 {
     if has_size(header) { header - 2 } else { header }
@@ -174,20 +174,5 @@ impl Obu<'_> {
         ensures { result ≡ is_sequence_header (obu self.now.header self.now.extension self.now.payload.now) }
     {
         self.header / 8 % 16 == 1
-    }
-
-    /// The bytes of the unit without S and size.
-    ///
-    /// # Errors
-    ///
-    /// `AllocError` if memory runs out.
-    pub fn without_its_size(&self, alloc: Global) -> Result<Vec<u8>, AllocError>
-        ensures { IfOk result (λ v. v.items
-            ≡ without_its_size (obu self.now.header self.now.extension self.now.payload.now)) }
-    {
-        let mut text = Vec::new(alloc);
-        push_header(without_size(self.header), self.extension, &mut text)?;
-        text.extend_from_slice(self.payload)?;
-        Ok(text)
     }
 }

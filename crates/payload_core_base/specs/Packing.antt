@@ -1,5 +1,5 @@
 -- What samples give a sender.
-use Rattle.std.specs.Prelude.{◌≡◌, ◌≢◌, ℕ, Bool, true, false, List, [], ◌∷◌, Option, Result, Ok, Err}
+use Rattle.std.specs.Prelude.{◌≡◌, ◌≢◌, ℕ, Bool, true, false, List, [], ◌∷◌, ◌++◌, map, Option, Result, Ok, Err}
 use Rattle.payload_core_base.specs.declared.error.PacketError.{PacketError}
 use Rattle.payload_core_base.specs.declared.error.PacketError.TheVariants.{Memory}
 
@@ -24,6 +24,15 @@ pub record Packing : Type 0 where
 abbrev pub Sends : Result Sent PacketError → List (List ℕ) → Sender → Type 0
 Sends (Ok sent) packets sender = (packets ≡ sent.packets) × (sender ≡ sent.sender)
 Sends (Err e) packets sender = ⊥
+
+-- These bytes in front of each packet.
+abbrev pub with_prefix : List ℕ → List (List ℕ) → List (List ℕ)
+with_prefix prefix packets = map (λ p. prefix ++ p) packets
+
+-- The sample gives its packets with these bytes in front of each, and leaves the packetizer with this.
+abbrev pub SendsWith : List ℕ → Result Sent PacketError → List (List ℕ) → Sender → Type 0
+SendsWith prefix (Ok sent) packets sender = (packets ≡ with_prefix prefix sent.packets) × (sender ≡ sent.sender)
+SendsWith prefix (Err e) packets sender = ⊥
 
 -- The sample is refused with this error, or memory runs out.
 abbrev pub RefusesSample : Result Sent PacketError → PacketError → Type 0

@@ -11,13 +11,14 @@ impl Packetizer for Box<dyn Packetizer + Drop> {
 
     ghost sender = { λ b. (Packetizer-box b).sender b.value };
 
-    fn packetize(
+    fn packetize_with_prefix(
         &mut self,
         alloc: Global,
+        prefix: &[u8],
         mtu: usize,
         bytes: &[u8],
     ) -> Result<Vec<Vec<u8>>, PacketError> {
-        (**self).packetize(alloc, mtu, bytes)
+        (**self).packetize_with_prefix(alloc, prefix, mtu, bytes)
     }
 
     fn is_marker(&mut self, bytes: &[u8], previous: Option<&[u8]>, last: bool) -> bool {

@@ -1,6 +1,6 @@
 //! Cutting samples into packets.
 
-ghost use Rattle.payload_core_base.specs.Packing.{Packing, RefusesSample, Sender, Sends};
+ghost use Rattle.payload_core_base.specs.Packing.{Packing, RefusesSample, Sender, Sends, SendsWith};
 ghost use Rattle.std.specs.Prelude.{◌≡◌, ◌∷◌, [], IfErr, IfOk, OnErr, false, map, true};
 
 use crate::error::PacketError;
@@ -31,6 +31,27 @@ pub trait Packetizer {
         ensures packing { packing self.new ≡ packing self.old }
         ensures packets { let sent = (packing self.old).pack (sender self.old) mtu bytes.now in
             IfOk result (λ ps. Sends sent (map (λ p. p.items) ps.items) (sender self.new)) }
+        ensures refused { let sent = (packing self.old).pack (sender self.old) mtu bytes.now in
+            IfErr result (RefusesSample sent) }
+        ensures unchanged { OnErr result (sender self.new ≡ sender self.old) }
+    {
+        self.packetize_with_prefix(alloc, &[], mtu, bytes)
+    }
+
+    /// The payloads that `packetize` makes of a sample, each with these bytes in front of it, such as a header.
+    ///
+    /// # Errors
+    /// Those of `packetize`.
+    fn packetize_with_prefix(
+        &mut self,
+        alloc: Global,
+        prefix: &[u8],
+        mtu: usize,
+        bytes: &[u8],
+    ) -> Result<Vec<Vec<u8>>, PacketError>
+        ensures packing { packing self.new ≡ packing self.old }
+        ensures packets { let sent = (packing self.old).pack (sender self.old) mtu bytes.now in
+            IfOk result (λ ps. SendsWith prefix.now sent (map (λ p. p.items) ps.items) (sender self.new)) }
         ensures refused { let sent = (packing self.old).pack (sender self.old) mtu bytes.now in
             IfErr result (RefusesSample sent) }
         ensures unchanged { OnErr result (sender self.new ≡ sender self.old) };

@@ -3,7 +3,7 @@ use Rattle.std.proofs.Common.{◌≡◌, ℕ, ◌<◌, ◌≤◌, sym, ◌∙◌
 use Rattle.std.specs.Prelude.{◌-◌, Option, Some, Ok}
 use Rattle.payload_core_base.specs.Format.{Format, Fragment}
 use Rattle.payload_core_base.specs.declared.extra.CodecExtra.{CodecExtra}
-use Rattle.payload_core_buffer.specs.Frames.{IsFrame, due_frame, packet_at, packets_between}
+use Rattle.payload_core_buffer.specs.Frames.{IsFrame, due_frame, number_at, packet_at, packets_between, time_at}
 use Rattle.payload_core_buffer.specs.Metas.{metas_of_unit}
 use Rattle.payload_core_buffer.specs.Packets.{metas_of, packets_of}
 use Rattle.payload_core_buffer.specs.Pops.{PopState, pop_state}
@@ -13,6 +13,7 @@ use Rattle.payload_core_buffer.specs.declared.depacketized.Depacketized.{Depacke
 use Rattle.payload_core_buffer.specs.declared.frame.Frame.{Frame}
 use Rattle.payload_core_buffer.specs.declared.held.Held.{Held}
 use Rattle.payload_core_buffer.specs.declared.held.RtpMeta.{RtpMeta}
+use Rattle.rtp_wire.specs.declared.values.ExtensionValues.{ExtensionValues}
 use Rattle.payload_core_buffer.proofs.DueLemmas.{due_frames}
 use Rattle.payload_core_buffer.proofs.FrameEnds.{unit-is}
 use Rattle.payload_core_buffer.proofs.FrameLemmas.{length_packets}
@@ -48,33 +49,33 @@ module _ (format : Format) (cutoff : Option ℕ) (fragment : Fragment) (hold_bac
         (sym e) is)
 
     -- by what is known of its first and its last packet
-    pub popped-ends : (p q : RtpMeta) → p ≡ (packet_at (packets_of ks) f.start).meta
-        → q ≡ (packet_at (packets_of ks) (f.end - 1)).meta
+    pub popped-ends : (first last time : ℕ) (values : ExtensionValues) → first ≡ number_at (packets_of ks) f.start
+        → last ≡ number_at (packets_of ks) (f.end - 1) → time ≡ time_at (packets_of ks) f.start
+        → values ≡ (packet_at (packets_of ks) (f.end - 1)).meta.ext_vals
         → AnswersBy (pop_step format hold_back (state hs)) new (Some (Ok (Some (record {
-          first = p.seq_no;
-          last = q.seq_no;
-          time = p.time;
-          values = q.ext_vals;
+          first = first;
+          last = last;
+          time = time;
+          values = values;
           bytes = bytes;
           extra = extra;
         }))))
-    popped-ends p q first last = as-unit (record {
-      first = p.seq_no;
-      last = q.seq_no;
-      time = p.time;
-      values = q.ext_vals;
+    popped-ends first last time values is-first is-last is-time is-values = as-unit (record {
+      first = first;
+      last = last;
+      time = time;
+      values = values;
       bytes = bytes;
       extra = extra;
     })
-        (ap₂ (λ (a b : RtpMeta). let u : MediaUnit = record {
-          first = a.seq_no;
-          last = b.seq_no;
-          time = a.time;
-          values = b.ext_vals;
+        ((λ i. record {
+          first = is-first i;
+          last = is-last i;
+          time = is-time i;
+          values = is-values i;
           bytes = bytes;
           extra = extra;
-        } in u)
-        first last ∙ sym (unit-is (packets_of ks) f is-frame.not_empty is-frame.in_range bytes extra))
+        }) ∙ sym (unit-is (packets_of ks) f is-frame.not_empty is-frame.in_range bytes extra))
 
     -- by what is known of all its packets
     pub popped-metas : (d : Depacketized) → d.bytes.items ≡ bytes → d.extra ≡ extra

@@ -1,5 +1,6 @@
 -- Packets up to a number, which go, and those above it, which stay.
-use Rattle.std.proofs.Common.{◌≡◌, ℕ, zero, suc, ◌+◌, ◌<◌, ◌≤◌, refl, sym, ◌∙◌, ap, subst, arith, Bool, true, false, List}
+use Rattle.std.proofs.Common.{◌≡◌, ℕ, zero, suc, ◌+◌, ◌<◌, ◌≤◌, refl, sym, ◌∙◌, ap, subst, arith, Bool, true, false}
+use Rattle.std.proofs.Common.{List}
 use Rattle.std.proofs.Common.{[], ◌∷◌, length, drop, Some, get_or, inl, inr}
 use Rattle.std.proofs.lemmas.Bool.{cases_lt}
 use Rattle.std.proofs.lemmas.Bool.Decides.{nat_tests}
@@ -9,11 +10,12 @@ use Rattle.std.specs.Prelude.{nat_le, not, cond}
 use Rattle.payload_core_base.specs.Format.{Format}
 use Rattle.payload_core_buffer.specs.Buffered.{packets_above}
 use Rattle.payload_core_buffer.specs.Packets.{Packet, packet_of, packets_of}
-use Rattle.payload_core_buffer.specs.Slots.{AreSame, AreSlots, IsAbove, IsBuffered, IsCounted, IsFlagged, no_slot, slot_at}
+use Rattle.payload_core_buffer.specs.Slots.{AreSame, AreSlots, IsAbove, IsBuffered, IsCounted, IsFlagged, no_slot}
+use Rattle.payload_core_buffer.specs.Slots.{slot_at}
 use Rattle.payload_core_buffer.specs.declared.held.Held.{Held}
 use Rattle.payload_core_buffer.proofs.KeptLemmas.{rising-drop}
 use Rattle.payload_core_buffer.proofs.PlaceLemmas.{packets_drop, queue_from, same_flagged, same_packets}
-use Rattle.payload_core_buffer.proofs.QueueLemmas.{rising_lt, same_length}
+use Rattle.payload_core_buffer.proofs.QueueLemmas.{same_length}
 use Rattle.payload_core_buffer.proofs.TakeLemmas.{above_same}
 
 -- a number that is held is the last of those up to it

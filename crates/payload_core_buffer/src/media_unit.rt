@@ -2,6 +2,7 @@
 
 ghost use Rattle.std.specs.Prelude.{◌≡◌};
 
+use crate::kept_values::KeptValues;
 use payload_core_base::CodecExtra;
 use rtp_wire::{ExtensionValues, SeqNo};
 use std::marker::Model;
@@ -12,7 +13,7 @@ use std::marker::Model;
 pub struct Unit {
     pub(crate) bytes: Vec<u8>,
     pub(crate) time: u32,
-    pub(crate) ext_vals: ExtensionValues,
+    pub(crate) ext_vals: KeptValues,
     pub(crate) first: SeqNo,
     pub(crate) last: SeqNo,
     pub(crate) extra: CodecExtra,
@@ -66,7 +67,7 @@ impl Unit {
     pub fn ext_vals(&self) -> ExtensionValues
         ensures { result ≡ self.now.values }
     {
-        self.ext_vals
+        self.ext_vals.get()
     }
 
     /// What its codec tells beside the bytes, as whether it is a keyframe.

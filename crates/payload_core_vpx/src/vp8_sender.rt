@@ -1,6 +1,7 @@
 //! Sending VP8 payloads (RFC 7741 4).
 
 ghost use Rattle.payload_core_base.specs.Frames.{next_id};
+ghost use Rattle.payload_core_base.specs.Packing.{with_prefix};
 ghost use Rattle.payload_core_vpx.specs.Vp8.{described, descriptor, descriptor_size, pack_vp8, tells_id};
 ghost use Rattle.payload_core_vpx.specs.Vp8.{vp8_packing};
 ghost use Rattle.payload_core_base.specs.Pieces.{pieces};
@@ -36,19 +37,24 @@ fn descriptor_size(tells: bool, id: u16) -> usize
     }
 }
 
-/// The descriptor of a packet, and its piece after it.
+/// The packet of a piece: the prefix, the descriptor, and the piece after it.
 fn packet(
     alloc: Global,
+    prefix: &[u8],
     tells: bool,
     id: u16,
     first: bool,
     piece: &[u8],
 ) -> Result<Vec<u8>, AllocError>
     requires { id < 32768 }
-    ensures { IfOk result (λ p. p.items ≡ descriptor tells id first ++ piece.now) }
+    ensures { IfOk result (λ p. p.items ≡ prefix.now ++ (descriptor tells id first ++ piece.now)) }
 {
     let start: u8 = if first { 0x10 } else { 0 };
-    let mut packet = Vec::with_capacity(alloc, piece.len().saturating_add(4))?;
+    let mut packet = Vec::with_capacity(
+        alloc,
+        prefix.len().saturating_add(piece.len()).saturating_add(4),
+    )?;
+    packet.extend_from_slice(prefix)?;
     if !tells {
         packet.push(start)?;
     } else if id < 128 {
@@ -61,9 +67,10 @@ fn packet(
     Ok(packet)
 }
 
-/// The packets of a frame, cut into pieces of this size.
+/// The packets of a frame, cut into pieces of this size, each after the prefix.
 fn packets(
     alloc: Global,
+    prefix: &[u8],
     tells: bool,
     id: u16,
     size: usize,
@@ -72,12 +79,12 @@ fn packets(
     requires id { id < 32768 }
     requires size { 0 < size }
     ensures { IfOk result (λ ps. map (λ p. p.items) ps.items
-        ≡ described tells id true (pieces size bytes.now)) }
+        ≡ with_prefix prefix.now (described tells id true (pieces size bytes.now))) }
 {
     let mut packets = Vec::with_capacity(alloc, bytes.len().div_ceil(size))?;
     let mut first = true;
     for piece in bytes.chunks(size) {
-        packets.push(packet(alloc, tells, id, first, piece)?)?;
+        packets.push(packet(alloc, prefix, tells, id, first, piece)?)?;
         first = false;
     }
     Ok(packets)
@@ -130,9 +137,10 @@ impl Packetizer for Vp8Packetizer {
 
     ghost sender = { λ p. record { number = p.id; waiting = [] } };
 
-    fn packetize(
+    fn packetize_with_prefix(
         &mut self,
         alloc: Global,
+        prefix: &[u8],
         mtu: usize,
         bytes: &[u8],
     ) -> Result<Vec<Vec<u8>>, PacketError> {
@@ -141,7 +149,7 @@ impl Packetizer for Vp8Packetizer {
         if bytes.is_empty() || mtu <= size {
             return Ok(Vec::new(alloc));
         }
-        let packets = packets(alloc, tells, self.id, mtu - size, bytes)?;
+        let packets = packets(alloc, prefix, tells, self.id, mtu - size, bytes)?;
         self.id = if self.id < 32767 { self.id + 1 } else { 0 };
         Ok(packets)
     }

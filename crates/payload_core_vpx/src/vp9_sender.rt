@@ -1,6 +1,7 @@
 //! Sending VP9 payloads in flexible mode (RFC 9628 4.2).
 
 ghost use Rattle.payload_core_base.specs.Frames.{after_frame, next_id};
+ghost use Rattle.payload_core_base.specs.Packing.{with_prefix};
 ghost use Rattle.payload_core_vpx.specs.Vp9.{described, descriptor, descriptor_size};
 ghost use Rattle.payload_core_vpx.specs.Vp9.{vp9_packing};
 ghost use Rattle.payload_core_vpx.specs.Vp9Frame.{is_predicted};
@@ -48,9 +49,10 @@ fn descriptor_size(told: bool) -> usize
     if told { 4 } else { 3 }
 }
 
-/// The descriptor of a packet, and its piece after it.
+/// The packet of a piece: the prefix, the descriptor, and the piece after it.
 fn packet(
     alloc: Global,
+    prefix: &[u8],
     told: bool,
     id: u16,
     first: bool,
@@ -58,12 +60,16 @@ fn packet(
     piece: &[u8],
 ) -> Result<Vec<u8>, AllocError>
     requires { id < 32768 }
-    ensures { IfOk result (λ p. p.items ≡ descriptor told id first last ++ piece.now) }
+    ensures { IfOk result (λ p. p.items ≡ prefix.now ++ (descriptor told id first last ++ piece.now)) }
 {
     let predicted: u8 = if told { 0x40 } else { 0 };
     let begins: u8 = if first { 0x08 } else { 0 };
     let ends: u8 = if last { 0x04 } else { 0 };
-    let mut packet = Vec::with_capacity(alloc, piece.len().saturating_add(4))?;
+    let mut packet = Vec::with_capacity(
+        alloc,
+        prefix.len().saturating_add(piece.len()).saturating_add(4),
+    )?;
+    packet.extend_from_slice(prefix)?;
     let flags = 0x90 + predicted + begins + ends;
     packet.extend_from_slice(&[flags, 0x80 + (id / 256) as u8, (id % 256) as u8])?;
     if told {
@@ -73,9 +79,10 @@ fn packet(
     Ok(packet)
 }
 
-/// The packets of a frame, cut into pieces of this size.
+/// The packets of a frame, cut into pieces of this size, each after the prefix.
 fn packets(
     alloc: Global,
+    prefix: &[u8],
     told: bool,
     id: u16,
     size: usize,
@@ -83,14 +90,15 @@ fn packets(
 ) -> Result<Vec<Vec<u8>>, AllocError>
     requires id { id < 32768 }
     requires size { 0 < size }
-    ensures { IfOk result (λ ps. map (λ p. p.items) ps.items ≡ described told id true (pieces size bytes.now)) }
+    ensures { IfOk result (λ ps. map (λ p. p.items) ps.items
+        ≡ with_prefix prefix.now (described told id true (pieces size bytes.now))) }
 {
     let mut packets = Vec::with_capacity(alloc, bytes.len().div_ceil(size))?;
     let mut first = true;
     let mut left = bytes.len();
     for piece in bytes.chunks(size) {
         left -= piece.len();
-        packets.push(packet(alloc, told, id, first, left == 0, piece)?)?;
+        packets.push(packet(alloc, prefix, told, id, first, left == 0, piece)?)?;
         first = false;
     }
     Ok(packets)
@@ -141,9 +149,10 @@ impl Packetizer for Vp9Packetizer {
 
     ghost sender = { λ p. record { number = p.id; waiting = [] } };
 
-    fn packetize(
+    fn packetize_with_prefix(
         &mut self,
         alloc: Global,
+        prefix: &[u8],
         mtu: usize,
         bytes: &[u8],
     ) -> Result<Vec<Vec<u8>>, PacketError> {
@@ -152,7 +161,7 @@ impl Packetizer for Vp9Packetizer {
         if bytes.is_empty() || mtu <= size {
             return Ok(Vec::new(alloc));
         }
-        let packets = packets(alloc, told, self.id, mtu - size, bytes)?;
+        let packets = packets(alloc, prefix, told, self.id, mtu - size, bytes)?;
         self.id = if self.id < 32767 { self.id + 1 } else { 0 };
         Ok(packets)
     }

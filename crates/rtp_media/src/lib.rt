@@ -72,6 +72,7 @@ pub use rtp_media_forward_runs::hops_laws;
 pub use rtp_media_forward_runs::opus_over_forwarder;
 pub use rtp_media_forward_runs::published_law;
 pub use rtp_media_forward_runs::steps_over_hops_law;
+pub use rtp_media_forward_runs::vp8_over_forwarder;
 pub use rtp_media_program::RunFault;
 pub use rtp_media_program::Status;
 pub use rtp_media_program::run;

@@ -1,8 +1,8 @@
 -- An answer for a browser, section by section.
 use Rattle.std.proofs.Common.{◌≡◌, ◌∙◌, ap, sym, refl, subst, ℕ, suc, Bool, true, false, not, cond, List, [], ◌∷◌, ◌++◌}
-use Rattle.std.proofs.Common.{Option, None, Some, map, filter, slice_get}
-use Rattle.std.proofs.lemmas.List.{append-nil}
-use Rattle.std.specs.List.{flat_map, list_all}
+use Rattle.std.proofs.Common.{◌≤◌, Option, None, Some, arith, filter, length, map, slice_get}
+use Rattle.std.proofs.lemmas.List.{length-append}
+use Rattle.std.specs.List.{list_all}
 use Rattle.std.specs.Option.{option_or, unwrap_or}
 use Rattle.rtp_media_sections.specs.Lines.{mid_of}
 use Rattle.rtp_wire.specs.Direction.{sends}
@@ -11,9 +11,11 @@ use Rattle.sdp_formats_data.specs.declared.media.MediaAttribute.{MediaAttribute}
 use Rattle.sdp_formats_data.specs.declared.media.MediaAttribute.TheVariants as line
 use Rattle.sdp_formats_data.specs.declared.media.MediaLine.{MediaLine}
 use Rattle.sdp_formats_data.specs.declared.session.Sdp.{Sdp}
+use Rattle.sdp_formats_data.specs.declared.session.Session.{Session}
 use Rattle.sdp_formats_data.specs.declared.session.SessionAttribute.{SessionAttribute}
 use Rattle.sdp_formats_data.specs.declared.session.SessionAttribute.TheVariants.{Group}
-use Rattle.rtp_media_browsers.specs.AnswerLaws.{AnswersEachSection, IsAnswerTo, answered_from, answered_in}
+use Rattle.rtp_media_browsers.specs.AnswerLaws.{AnswersEachSection, IsAnswerTo, TextsAreWhole, answered_from}
+use Rattle.rtp_media_browsers.specs.AnswerLaws.{answered_in}
 use Rattle.rtp_media_browsers.specs.AnswerLaws.{names_answered}
 use Rattle.rtp_media_browsers.specs.Following.{is_new, section_named, has_name}
 use Rattle.rtp_media_browsers.specs.ForBrowsers.{bundled_as, dressed_section, dressed_session, is_in_use}
@@ -24,7 +26,8 @@ use Rattle.rtp_media_browsers.specs.Identities.{with_order}
 use Rattle.rtp_media_browsers.specs.Laws.{AreBundlesOf, IsBundleOf, is_end_section}
 use Rattle.rtp_media_browsers.specs.Lines.{is_bundle_name}
 use Rattle.rtp_media_browsers.specs.Names.{is_among, mids_of}
-use Rattle.rtp_media_browsers.specs.Places.{at_place, if_any, is_taken, place_of, places_from, rejected}
+use Rattle.rtp_media_browsers.specs.Places.{after_place, at_place, if_any, is_taken, place_of}
+use Rattle.rtp_media_browsers.specs.Places.{placed_from, places_from, rejected}
 use Rattle.rtp_media_browsers.specs.Refusals.{begin_with, browser_refusal, has_planned, is_found, refused_if}
 use Rattle.rtp_media_browsers.specs.Fit.{are_ice_chars, may_say}
 use Rattle.rtp_media_browsers.specs.declared.error.BrowserError.{BrowserError}
@@ -32,7 +35,7 @@ use Rattle.rtp_media_browsers.specs.declared.error.BrowserError.TheVariants as e
 use Rattle.rtp_media_browsers.specs.declared.identity.Identity.{Identity}
 use Rattle.rtp_media_browsers.specs.declared.identity.Track.{Track}
 use Rattle.rtp_media_browsers.specs.declared.plan.Place.{Place}
-use Rattle.rtp_media_browsers.specs.declared.plan.Place.TheVariants.{Kept, Taken}
+use Rattle.rtp_media_browsers.specs.declared.plan.Place.TheVariants.{Free, Kept, Taken}
 use Rattle.rtp_media_browsers.specs.declared.plan.Plan.{Plan}
 use Rattle.rtp_media_browsers.specs.declared.transport.Transport.{Transport}
 use Rattle.rtp_media_browsers.specs.declared.wish.Wish.{Wish}
@@ -150,8 +153,8 @@ module _ (bundle : List (List ℕ)) (wishes : List Wish) (ms : List MediaLine) (
   at_one : (m : MediaLine) (b : Bool) → is_found (mids_of ms) (cond b (Taken (rejected m)) (Kept (mid_of m))) ≡ true
       → (rest : List MediaLine) (names : List (List ℕ)) (flags : List Bool) → mids_of rest ≡ names
       → map is_in_use rest ≡ flags
-      → (mids_of (at_place ms (cond b (Taken (rejected m)) (Kept (mid_of m))) ++ rest) ≡ mid_of m ∷ names)
-      × (map is_in_use (at_place ms (cond b (Taken (rejected m)) (Kept (mid_of m))) ++ rest) ≡ not b ∷ flags)
+      → (mids_of (at_place ms [] (cond b (Taken (rejected m)) (Kept (mid_of m))) ++ rest) ≡ mid_of m ∷ names)
+      × (map is_in_use (at_place ms [] (cond b (Taken (rejected m)) (Kept (mid_of m))) ++ rest) ≡ not b ∷ flags)
   unfolding at_place is_found is_in_use
   at_one m true h rest names flags e f = ((λ i. rejected_name m i ∷ e i), (λ i. false ∷ f i))
   at_one m false h rest names flags e f =
@@ -163,17 +166,25 @@ module _ (bundle : List (List ℕ)) (wishes : List Wish) (ms : List MediaLine) (
         ap (λ (xs : List MediaLine). map is_in_use (xs ++ rest)) one ∙ (λ i. shown_use i ∷ f i),
       )
 
+  none_after : (p : Place) → after_place p [] ≡ []
+  unfolding after_place
+  none_after (Kept name) = refl
+  none_after (Taken r) = refl
+  none_after (Free r) = refl
+
   pub at_all : (n : ℕ) (os : List MediaLine) → list_all (is_found (mids_of ms)) (places_from bundle wishes n os) ≡ true
-      → (mids_of (flat_map (at_place ms) (places_from bundle wishes n os)) ≡ mids_of os)
-      × (map is_in_use (flat_map (at_place ms) (places_from bundle wishes n os)) ≡ answered_from bundle wishes n os)
+      → (mids_of (placed_from ms (places_from bundle wishes n os) []) ≡ mids_of os)
+      × (map is_in_use (placed_from ms (places_from bundle wishes n os) []) ≡ answered_from bundle wishes n os)
   at_all n [] h = (refl, refl)
   at_all n (m ∷ os) h =
       let here = both_of (is_found (mids_of ms) (place_of bundle (slice_get wishes n) m))
       (list_all (is_found (mids_of ms)) (places_from bundle wishes (suc n) os)) h in
       let later = at_all (suc n) os here.1 in
+      let ps = places_from bundle wishes (suc n) os in
+      let same = ap (placed_from ms ps) (none_after (place_of bundle (slice_get wishes n) m)) in
       at_one m (is_taken bundle (slice_get wishes n) m) here.0
-      (flat_map (at_place ms) (places_from bundle wishes (suc n) os)) (mids_of os)
-      (answered_from bundle wishes (suc n) os) later.0 later.1
+      (placed_from ms ps (after_place (place_of bundle (slice_get wishes n) m) [])) (mids_of os)
+      (answered_from bundle wishes (suc n) os) (ap mids_of same ∙ later.0) (ap (map is_in_use) same ∙ later.1)
 
 -- the names in use are those of the sections that are answered
 names_step : (x : MediaLine) (xs : List MediaLine) (b : Bool)
@@ -239,20 +250,25 @@ planned plan t sdp h =
     (both_of (begin_with (mids_of plan.sections) sdp.media_lines)
     (list_all (is_found (mids_of sdp.media_lines)) plan.places) found).1
 
+shown_bundles : (plan : Plan) (t : Transport) (s : Session) (all : List MediaLine)
+    → AreBundlesOf (names_in_use all) (shown plan t s all).session.attrs
+unfolding shown dressed_session
+shown_bundles plan t s all =
+    bundles_both (names_in_use all)
+    (map (bundled_as (names_in_use all)) s.attrs ++ mixed_line plan.allows_mixed) (lite_line t.is_lite)
+    (bundles_both (names_in_use all) (map (bundled_as (names_in_use all)) s.attrs)
+    (mixed_line plan.allows_mixed) (bundles_mapped (names_in_use all) s.attrs)
+    (no_bundle_mixed (names_in_use all) plan.allows_mixed)) (no_bundle_lite (names_in_use all) t.is_lite)
+
 answer_of : (wishes : List Wish) (offer : Sdp) (plan : Plan) (t : Transport) (sdp : Sdp) (all : List MediaLine)
     → mids_of all ≡ mids_of offer.media_lines → map is_in_use all ≡ answered_in wishes offer
     → IsAnswerTo wishes offer (shown plan t sdp.session all)
-unfolding shown dressed_session
+unfolding shown
 answer_of wishes offer plan t sdp all names flags = record {
   names = names;
   ports = flags;
   bundles = subst (λ (x : List (List ℕ)). AreBundlesOf x (shown plan t sdp.session all).session.attrs)
-      (names_by all ∙ (λ i. names_answered (flags i) (names i)))
-      (bundles_both (names_in_use all)
-      (map (bundled_as (names_in_use all)) sdp.session.attrs ++ mixed_line plan.allows_mixed) (lite_line t.is_lite)
-      (bundles_both (names_in_use all) (map (bundled_as (names_in_use all)) sdp.session.attrs)
-      (mixed_line plan.allows_mixed) (bundles_mapped (names_in_use all) sdp.session.attrs)
-      (no_bundle_mixed (names_in_use all) plan.allows_mixed)) (no_bundle_lite (names_in_use all) t.is_lite));
+      (names_by all ∙ (λ i. names_answered (flags i) (names i))) (shown_bundles plan t sdp.session all);
 }
 
 pub answers_each_section : AnswersEachSection
@@ -263,6 +279,38 @@ answers_each_section plan t wishes offer sdp places passes ends olds =
     (subst (λ (x : List Place). list_all (is_found (mids_of sdp.media_lines)) x ≡ true) places
     (planned plan t sdp passes)) in
     let each = at_all (bundled offer) wishes ms (told_in_use plan t sdp.media_lines ends) 0 offer.media_lines found in
-    let all_is = (λ i. flat_map (at_place ms) (places i) ++ none_new plan t sdp.media_lines olds i)
-    ∙ append-nil (flat_map (at_place ms) (places_of wishes offer)) in
+    let all_is : placed_from ms plan.places (filter (is_new plan.sections) ms)
+    ≡ placed_from ms (places_of wishes offer) [] =
+    λ i. placed_from ms (places i) (none_new plan t sdp.media_lines olds i) in
     answer_of wishes offer plan t sdp _ (ap mids_of all_is ∙ each.0) (ap (map is_in_use) all_is ∙ each.1)
+
+-- a section is at each place, if the end has those that have one
+one_at : (ms news : List MediaLine) (p : Place) → is_found (mids_of ms) p ≡ true → 1 ≤ length (at_place ms news p)
+unfolding at_place is_found
+one_at ms news (Taken r) h = omega arith
+one_at ms [] (Free r) h = omega arith
+one_at ms (m ∷ news) (Free r) h = omega arith
+one_at ms news (Kept name) h =
+    let found = is_found_among ms name h in
+    subst (λ (o : Option MediaLine). 1 ≤ length (if_any o)) (sym found.1) (omega arith)
+
+placed_length : (ms news : List MediaLine) (ps : List Place) → list_all (is_found (mids_of ms)) ps ≡ true
+    → length ps ≤ length (placed_from ms ps news)
+placed_length ms news [] h = omega arith
+placed_length ms news (p ∷ ps) h =
+    let here = both_of (is_found (mids_of ms) p) (list_all (is_found (mids_of ms)) ps) h in
+    let one = one_at ms news p here.0 in
+    let rest = placed_length ms (after_place p news) ps here.1 in
+    let all = length-append (at_place ms news p) (placed_from ms ps (after_place p news)) in
+    omega (arith, one, rest, all)
+
+pub texts_are_whole : TextsAreWhole
+unfolding shown
+texts_are_whole plan t sdp passes =
+    let ms = map (told_section plan t) sdp.media_lines in
+    let found = subst (λ (x : List (List ℕ)). list_all (is_found x) plan.places ≡ true)
+    (sym (told_names plan t sdp.media_lines)) (planned plan t sdp passes) in
+    record {
+      sections = placed_length ms (filter (is_new plan.sections) ms) plan.places found;
+      bundles = shown_bundles plan t sdp.session (placed_from ms plan.places (filter (is_new plan.sections) ms));
+    }

@@ -1,6 +1,6 @@
 -- What an end's offer or answer says is a text as ends write it.
 use Rattle.std.proofs.Common.{◌≡◌, ◌∙◌, ap, sym, refl, ℕ, Bool, true, false, not, List, [], ◌∷◌, ◌++◌, map}
-use Rattle.std.specs.Prelude.{◌&&◌, ◌||◌, Option, None, Some, codes, if◌then◌else◌}
+use Rattle.std.specs.Prelude.{◌||◌, Option, None, Some, if◌then◌else◌}
 use Rattle.std.specs.List.{flat_map, list_all}
 use Rattle.std.specs.Cmp.Lexicographic.{nat_list_eq_equiv}
 use Rattle.std.proofs.lemmas.Bool.{and_from, or_right}
@@ -119,7 +119,8 @@ is_end s = rw (kind_is s.kind) (lines_none s)
 
 are_end : (all : List Section) → list_all is_end_section (map line_of all) ≡ true
 are_end [] = refl
-are_end (s ∷ all) = and_from (is_end_section (line_of s)) (list_all is_end_section (map line_of all)) (is_end s) (are_end all)
+are_end (s ∷ all) = and_from (is_end_section (line_of s)) (list_all is_end_section (map line_of all)) (is_end s)
+    (are_end all)
 
 name_of_line : (s : Section) → mid_of (line_of s) ≡ s.mid
 unfolding line_of mid_in

@@ -1,6 +1,8 @@
 pub mod Asked
 pub mod Dressed
 pub mod GoingOn
+pub mod FewerWishes
+pub mod InCommonLaws
 pub mod InPlace
 pub mod Named
 pub mod Placed
@@ -9,6 +11,7 @@ pub mod Read
 pub mod Refused
 pub mod Returning
 pub mod SessionBack
+pub mod SharedRows
 pub mod Steps
 pub mod Whole
 pub mod RoleLaws

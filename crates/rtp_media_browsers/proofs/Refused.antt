@@ -2,7 +2,7 @@
 use Rattle.std.proofs.Common.{◌≡◌, ◌∙◌, ap, inl, inr, refl, subst, sym, ℕ, false, List, Option, None, Some, Err}
 use Rattle.sdp_formats_data.specs.declared.session.Sdp.{Sdp}
 use Rattle.sdp_formats_values.specs.declared.setup.Setup.{Setup}
-use Rattle.rtp_media_browsers.specs.Calls.{IsDressed, IsRefused, IsUndressed}
+use Rattle.rtp_media_browsers.specs.Calls.{IsDressed, IsRefused, IsUndressed, told_places}
 use Rattle.rtp_media_browsers.specs.Fit.{settled}
 use Rattle.rtp_media_browsers.specs.ForBrowsers.{for_browser}
 use Rattle.rtp_media_browsers.specs.Identities.{said_of, told_text}
@@ -11,6 +11,7 @@ use Rattle.rtp_media_browsers.specs.Refusals.{Checks, browser_refusal}
 use Rattle.rtp_media_browsers.specs.declared.error.BrowserError.{BrowserError}
 use Rattle.rtp_media_browsers.specs.declared.error.BrowserError.TheVariants as error
 use Rattle.rtp_media_browsers.specs.declared.identity.Said.{Said}
+use Rattle.rtp_media_browsers.specs.declared.plan.Place.{Place}
 use Rattle.rtp_media_browsers.specs.declared.plan.Plan.{Plan}
 use Rattle.rtp_media_browsers.specs.declared.transport.Transport.{Transport}
 
@@ -78,16 +79,19 @@ module _ (text : List ℕ) (plan : Plan) (t : Transport) where
       own_unwritten sdp e whole passes (subst (λ (x : Sdp). IsUnwritten (told_text plan.identity plan.said x) x e) is h)
 
   -- what a browser gets
-  pub is_dressed : (sdp d : Sdp) (setup : Option Setup) (out : List ℕ) (said : Said) → SaysWhole text sdp
+  pub is_dressed : (sdp d : Sdp) (places : List Place) (setup : Option Setup) (out : List ℕ) (said : Said)
+      → SaysWhole text sdp
       → browser_refusal plan t sdp ≡ None → d ≡ for_browser plan t sdp
       → IsWritten (told_text plan.identity plan.said d) d out → said ≡ said_of plan.identity plan.said d
-      → setup ≡ settled plan.setup t.setup
-      → IsDressed text plan t (record plan { setup = setup; is_answering = false; said = Some said }) out
-  is_dressed sdp d setup out said whole passes is written remembered role = record {
+      → places ≡ told_places plan → setup ≡ settled plan.setup t.setup
+      → IsDressed text plan t
+      (record plan { places = places; setup = setup; is_answering = false; said = Some said }) out
+  is_dressed sdp d places setup out said whole passes is written remembered told role = record {
     sdp = sdp;
     says = whole;
     passes = passes;
     settles = λ i. record plan {
+      places = told i;
       setup = role i;
       is_answering = false;
       said = Some ((remembered ∙ ap (said_of plan.identity plan.said) is) i);

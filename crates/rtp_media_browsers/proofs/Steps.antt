@@ -16,13 +16,14 @@ use Rattle.rtp_media_browsers.specs.Places.{is_place_of}
 use Rattle.rtp_media_browsers.specs.Wanted.{number_from}
 use Rattle.rtp_media_browsers.specs.declared.asking.NamedWish.{NamedWish}
 use Rattle.rtp_media_browsers.specs.declared.plan.Place.{Place}
-use Rattle.rtp_media_browsers.specs.declared.plan.Place.TheVariants.{Kept, Taken}
+use Rattle.rtp_media_browsers.specs.declared.plan.Place.TheVariants.{Free, Kept, Taken}
 use Rattle.rtp_media_browsers.specs.declared.wish.Wish.{Wish}
 
 one_left : (p : Place) (ps : List Place) (m : MediaLine) (ms : List MediaLine)
     → left (p ∷ ps) (m ∷ ms) ≡ left_at (Some p) m ++ left ps ms
 one_left (Kept name) ps m ms = refl
 one_left (Taken r) ps m ms = refl
+one_left (Free r) ps m ms = refl
 
 past_left : (ms : List MediaLine) (m : MediaLine) → left [] (m ∷ ms) ≡ left_at None m ++ left [] ms
 past_left ms m = refl

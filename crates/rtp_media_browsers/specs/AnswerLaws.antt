@@ -1,10 +1,11 @@
--- What holds of a whole answer for a browser, of its first offer or a later one.
-use Rattle.std.specs.Prelude.{◌≡◌, ℕ, suc, Bool, true, false, not, IsTrue, List, [], ◌∷◌, map, None, slice_get}
+-- What holds of a whole text for a browser: of any, and of an answer, to its first offer or a later one.
+use Rattle.std.specs.Prelude.{◌≡◌, ◌≤◌, ℕ, suc, Bool, true, false, not, IsTrue, List, [], ◌∷◌, map, None, length}
+use Rattle.std.specs.Prelude.{slice_get}
 use Rattle.std.specs.List.{list_all}
 use Rattle.sdp_formats_data.specs.declared.media.MediaLine.{MediaLine}
 use Rattle.sdp_formats_data.specs.declared.session.Sdp.{Sdp}
 use Rattle.rtp_media_browsers.specs.Following.{is_new}
-use Rattle.rtp_media_browsers.specs.ForBrowsers.{for_browser, is_in_use}
+use Rattle.rtp_media_browsers.specs.ForBrowsers.{for_browser, is_in_use, names_in_use}
 use Rattle.rtp_media_browsers.specs.ForEnds.{bundled, places_of}
 use Rattle.rtp_media_browsers.specs.Laws.{AreBundlesOf, is_end_section}
 use Rattle.rtp_media_browsers.specs.Names.{mids_of}
@@ -35,7 +36,8 @@ answered_in wishes offer = answered_from (bundled offer) wishes 0 offer.media_li
 pub record IsAnswerTo (wishes : List Wish) (offer answer : Sdp) : Type 0 where
   pub names : mids_of answer.media_lines ≡ mids_of offer.media_lines
   pub ports : map is_in_use answer.media_lines ≡ answered_in wishes offer
-  pub bundles : AreBundlesOf (names_answered (answered_in wishes offer) (mids_of offer.media_lines)) answer.session.attrs
+  pub bundles : AreBundlesOf (names_answered (answered_in wishes offer) (mids_of offer.media_lines))
+      answer.session.attrs
 
 -- So is what a browser gets for its offer, once the plan has the offer's places, of an end's text that adds no section.
 abbrev pub AnswersEachSection : Type 0
@@ -44,3 +46,13 @@ AnswersEachSection = (plan : Plan) (t : Transport) (wishes : List Wish) (offer s
     → IsTrue (list_all is_end_section sdp.media_lines)
     → IsTrue (list_all (λ m. not (is_new plan.sections m)) sdp.media_lines)
     → IsAnswerTo wishes offer (for_browser plan t sdp)
+
+-- Any text for a browser, the end's offers too, has at least as many sections as there are places: none is taken away
+-- (RFC 3264 8). A bundle names exactly those whose port isn't 0 (RFC 9143 7.3.3).
+pub record IsWholeText (plan : Plan) (text : Sdp) : Type 0 where
+  pub sections : length plan.places ≤ length text.media_lines
+  pub bundles : AreBundlesOf (names_in_use text.media_lines) text.session.attrs
+
+abbrev pub TextsAreWhole : Type 0
+TextsAreWhole = (plan : Plan) (t : Transport) (sdp : Sdp) → browser_refusal plan t sdp ≡ None
+    → IsWholeText plan (for_browser plan t sdp)

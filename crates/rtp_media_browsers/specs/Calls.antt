@@ -1,15 +1,17 @@
 -- What the calls promise.
-use Rattle.std.specs.Prelude.{◌≡◌, ◌⊎◌, ℕ, false, List, Option, None, Some}
+use Rattle.std.specs.Prelude.{◌≡◌, ◌⊎◌, ℕ, false, if◌then◌else◌, List, map, Option, None, Some}
 use Rattle.sdp_formats_data.specs.declared.session.Sdp.{Sdp}
 use Rattle.rtp_media_browsers.specs.Fit.{settled}
 use Rattle.rtp_media_browsers.specs.ForBrowsers.{for_browser}
 use Rattle.rtp_media_browsers.specs.ForEnds.{IsAnswered, IsHanded, IsPlanned, places_behind, places_of}
 use Rattle.rtp_media_browsers.specs.ForEnds.{without}
 use Rattle.rtp_media_browsers.specs.Identities.{said_of, told_text}
+use Rattle.rtp_media_browsers.specs.Places.{freed}
 use Rattle.rtp_media_browsers.specs.Reading.{IsUnread, SaysWhole}
 use Rattle.rtp_media_browsers.specs.Refusals.{answer_refusal, browser_refusal, offer_refusal}
 use Rattle.rtp_media_browsers.specs.declared.error.BrowserError.{BrowserError}
 use Rattle.rtp_media_browsers.specs.declared.error.BrowserError.TheVariants.{NotWritable}
+use Rattle.rtp_media_browsers.specs.declared.plan.Place.{Place}
 use Rattle.rtp_media_browsers.specs.declared.plan.Plan.{Plan}
 use Rattle.rtp_media_browsers.specs.declared.transport.Transport.{Transport}
 use Rattle.rtp_media_browsers.specs.declared.wish.Wish.{Wish}
@@ -41,6 +43,10 @@ pub record AnswerPasses (text : List ℕ) (before after : Plan) (out : List ℕ)
   pub answered : IsAnswered before sdp after
   pub handed : IsHanded text sdp (without before.sections (places_behind before sdp) sdp) out
 
+-- The places after a text for the browser: an answer says port 0 of what isn't answered, so these places are free.
+abbrev pub told_places : Plan → List Place
+told_places plan = if plan.is_answering then map freed plan.places else plan.places
+
 -- The text for a browser: reading it gives what the end's text says, plus the transport's lines and the sections that
 -- were taken out.
 pub record IsDressed (text : List ℕ) (before : Plan) (t : Transport) (after : Plan) (out : List ℕ) : Type 0 where
@@ -48,6 +54,7 @@ pub record IsDressed (text : List ℕ) (before : Plan) (t : Transport) (after : 
   pub says : SaysWhole text sdp
   pub passes : browser_refusal before t sdp ≡ None
   pub settles : after ≡ record before {
+    places = told_places before;
     setup = settled before.setup t.setup;
     is_answering = false;
     said = Some (said_of before.identity before.said (for_browser before t sdp));

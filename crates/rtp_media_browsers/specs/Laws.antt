@@ -1,7 +1,8 @@
 -- What holds of texts that go to a browser and come back.
 use Rattle.std.specs.Prelude.{◌≡◌, ◌<◌, ◌+◌, ℕ, Bool, true, false, not, ◌&&◌, ◌||◌, IsTrue, List, [], ◌∷◌, filter}
-use Rattle.std.specs.Prelude.{drop, length, map, slice_get, None, Some}
+use Rattle.std.specs.Prelude.{suc, take, drop, length, map, slice_get, None, Some}
 use Rattle.std.specs.List.{flat_map, list_all}
+use Rattle.std.specs.Option.{option_or}
 use Rattle.rtp_media_sections.specs.Lines.{kind_of, mid_of, sources_in}
 use Rattle.rtp_media_sections.specs.Sections.{Wanted}
 use Rattle.rtp_wire.specs.declared.direction.Direction.TheVariants as way
@@ -22,7 +23,7 @@ use Rattle.rtp_media_browsers.specs.Places.{is_accepted, placed, rejected}
 use Rattle.rtp_media_browsers.specs.Refusals.{begin_with, is_found}
 use Rattle.rtp_media_browsers.specs.Wanted.{wanted_of}
 use Rattle.rtp_media_browsers.specs.declared.plan.Place.{Place}
-use Rattle.rtp_media_browsers.specs.declared.plan.Place.TheVariants.{Kept, Taken}
+use Rattle.rtp_media_browsers.specs.declared.plan.Place.TheVariants.{Free, Kept, Taken}
 use Rattle.rtp_media_browsers.specs.declared.plan.Plan.{Plan}
 use Rattle.rtp_media_browsers.specs.declared.transport.Transport.{Transport}
 use Rattle.rtp_media_browsers.specs.declared.wish.Wish.{Wish}
@@ -64,6 +65,7 @@ abbrev pub AreRejections : List Place → Type 0
 AreRejections [] = Unit {0}
 AreRejections (Kept name ∷ ps) = AreRejections ps
 AreRejections (Taken r ∷ ps) = ((m : MediaLine) × (r ≡ rejected m)) × AreRejections ps
+AreRejections (Free r ∷ ps) = ((m : MediaLine) × (r ≡ rejected m)) × AreRejections ps
 
 -- If nothing needs to be removed, a first text is unchanged for an end.
 abbrev pub NothingChanges : Type 0
@@ -84,12 +86,22 @@ ComesBack = (plan : Plan) (t : Transport) (wishes : List Wish) (sdp : Sdp) → I
 abbrev pub SectionsComeBack : Type 0
 SectionsComeBack = (t : Transport) (m : MediaLine) → IsTrue (is_end_section m) → end_section (dressed_section t m) ≡ m
 
+-- How many places are free.
+abbrev pub free_in : List Place → ℕ
+free_in [] = 0
+free_in (Kept name ∷ ps) = free_in ps
+free_in (Taken r ∷ ps) = free_in ps
+free_in (Free r ∷ ps) = suc (free_in ps)
+
 -- The sections that a browser gets: at its place each one that was taken out, and each of the end that has one, by its
--- name; and after them those that are new.
+-- name; those that are new at the free places, in order, and after all places (RFC 8829 5.2.2). A free place for which
+-- there is none keeps what was rejected there.
 pub record ArePlaced (ps : List Place) (olds ms all : List MediaLine) : Type 0 where
   pub taken : (n : ℕ) (r : MediaLine) → slice_get ps n ≡ Some (Taken r) → slice_get all n ≡ Some r
   pub kept : (n : ℕ) (name : List ℕ) → slice_get ps n ≡ Some (Kept name) → slice_get all n ≡ section_named ms name
-  pub added : drop (length ps) all ≡ filter (is_new olds) ms
+  pub free : (n : ℕ) (r : MediaLine) → slice_get ps n ≡ Some (Free r)
+      → slice_get all n ≡ option_or (slice_get (filter (is_new olds) ms) (free_in (take n ps))) (Some r)
+  pub added : drop (length ps) all ≡ drop (free_in ps) (filter (is_new olds) ms)
 
 abbrev pub EachInItsPlace : Type 0
 EachInItsPlace = (ps : List Place) (olds ms : List MediaLine) → IsTrue (list_all (is_found (mids_of ms)) ps)
@@ -108,7 +120,8 @@ pub record GoesOn (olds ms : List MediaLine) : Type 0 where
 -- The sections to answer with have the names and kinds of those that the end is handed, in their order.
 pub record AreWanted (plan : Plan) (wishes : List Wish) : Type 0 where
   pub names : map (λ (w : Wanted). w.mid) (wanted_of plan wishes) ≡ mids_of plan.sections
-  pub kinds : map (λ (w : Wanted). w.kind) (wanted_of plan wishes) ≡ map (λ (m : MediaLine). kind_of m.typ) plan.sections
+  pub kinds : map (λ (w : Wanted). w.kind) (wanted_of plan wishes) ≡ map (λ (m : MediaLine). kind_of m.typ)
+      plan.sections
 
 -- A section that is stopped keeps its name, its kind and its payload types, and no media flows.
 pub record IsHalted (m : MediaLine) : Type 0 where

@@ -7,6 +7,7 @@ pub mod Following
 pub mod ForBrowsers
 pub mod ForEnds
 pub mod Identities
+pub mod InCommon
 pub mod Laws
 pub mod Lines
 pub mod Names

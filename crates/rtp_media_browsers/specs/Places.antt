@@ -1,19 +1,20 @@
 -- The sections of a browser's text: those an end sees, and those it doesn't (RFC 8829 5.2.2, 5.3.1).
-use Rattle.std.specs.Prelude.{ℕ, suc, Bool, true, false, not, ◌&&◌, ◌||◌, List, [], ◌∷◌, ◌++◌, filter, map, Option, Some}
+use Rattle.std.specs.Prelude.{ℕ, suc, Bool, true, false, not, ◌&&◌, ◌||◌, List, [], ◌∷◌, ◌++◌, filter, map, Option}
+use Rattle.std.specs.Prelude.{Some}
 use Rattle.std.specs.Prelude.{None}
 use Rattle.std.specs.Prelude.{slice_get, if◌then◌else◌}
-use Rattle.std.specs.List.{flat_map, list_any}
+use Rattle.std.specs.List.{list_any}
 use Rattle.rtp_media_sections.specs.Lines.{mid_of}
 use Rattle.sdp_formats_values.specs.MediaTypes.{is_media}
 use Rattle.sdp_formats_data.specs.declared.media.MediaAttribute.{MediaAttribute}
 use Rattle.sdp_formats_data.specs.declared.media.MediaAttribute.TheVariants as line
 use Rattle.sdp_formats_data.specs.WholeTexts.{is_name}
 use Rattle.sdp_formats_data.specs.declared.media.MediaLine.{MediaLine}
-use Rattle.rtp_media_browsers.specs.Following.{is_new, section_named}
+use Rattle.rtp_media_browsers.specs.Following.{has_name, is_new, section_named}
 use Rattle.rtp_media_browsers.specs.Lines.{is_bundle_only}
 use Rattle.rtp_media_browsers.specs.Names.{is_among}
 use Rattle.rtp_media_browsers.specs.declared.plan.Place.{Place}
-use Rattle.rtp_media_browsers.specs.declared.plan.Place.TheVariants.{Kept, Taken}
+use Rattle.rtp_media_browsers.specs.declared.plan.Place.TheVariants.{Free, Kept, Taken}
 use Rattle.rtp_media_browsers.specs.declared.wish.Wish.{Wish}
 use Rattle.rtp_media_browsers.specs.declared.wish.Wish.TheVariants.{Accept}
 
@@ -61,6 +62,7 @@ places_from bundle wishes n (m ∷ ms) =
 -- The section, unless it is removed.
 abbrev pub left_at : Option Place → MediaLine → List MediaLine
 left_at (Some (Taken r)) m = []
+left_at (Some (Free r)) m = []
 left_at _ m = m ∷ []
 
 -- The sections that aren't removed; sections beyond the plan are kept.
@@ -69,11 +71,15 @@ left [] ms = ms
 left (p ∷ ps) [] = []
 left (Kept name ∷ ps) (m ∷ ms) = m ∷ left ps ms
 left (Taken r ∷ ps) (m ∷ ms) = left ps ms
+left (Free r ∷ ps) (m ∷ ms) = left ps ms
 
--- The place after the browser's answer, if it rejects the section.
+-- The place after the browser's answer. Where its port is 0 the place is free from then on: the current descriptions
+-- have port 0 there (RFC 8829 5.2.2). A free place is used again if the answer has another name or port there than what
+-- was rejected.
 abbrev pub answered_place : Place → MediaLine → Place
-answered_place (Kept name) m = if m.disabled then Taken (rejected m) else Kept name
-answered_place (Taken r) m = Taken r
+answered_place (Kept name) m = if m.disabled then Free (rejected m) else Kept name
+answered_place (Taken r) m = if m.disabled then Free r else Taken r
+answered_place (Free r) m = if m.disabled && has_name (mid_of r) m then Free r else Kept (mid_of m)
 
 -- The same if the plan has a place, and of a section that the end's offer added.
 abbrev pub answered_or_new : Option Place → MediaLine → Place
@@ -86,6 +92,12 @@ answered_places [] ms = map (λ m. Kept (mid_of m)) ms
 answered_places (p ∷ ps) [] = []
 answered_places (p ∷ ps) (m ∷ ms) = answered_place p m ∷ answered_places ps ms
 
+-- The place after an answer to the browser, which says port 0 of what isn't answered.
+abbrev pub freed : Place → Place
+freed (Kept name) = Kept name
+freed (Taken r) = Free r
+freed (Free r) = Free r
+
 -- The place of the section of a name, if the end stops it.
 unfoldable pub stopped_place : Option MediaLine → List ℕ → Place → Place
 stopped_place (Some m) mid (Kept name) = if is_name mid name then Taken (rejected m) else Kept name
@@ -93,18 +105,33 @@ stopped_place found mid p = p
 
 unfoldable pub is_place_of : List ℕ → Place → Bool
 is_place_of mid (Kept name) = is_name mid name
-is_place_of mid (Taken r) = false
+is_place_of mid _ = false
 
 abbrev pub if_any : Option MediaLine → List MediaLine
 if_any None = []
 if_any (Some m) = m ∷ []
 
--- What a browser gets at a place: what was taken out, or the end's section of that name.
-unfoldable pub at_place : List MediaLine → Place → List MediaLine
-at_place ms (Taken r) = r ∷ []
-at_place ms (Kept name) = if_any (section_named ms name)
+-- What a browser gets at a place, given the new sections that have no place yet: what was taken out, the end's section
+-- of that name, or at a free place the first of the new ones, if there is one (RFC 8829 5.2.2, RFC 3264 8.1).
+unfoldable pub at_place : List MediaLine → List MediaLine → Place → List MediaLine
+at_place ms news (Taken r) = r ∷ []
+at_place ms news (Kept name) = if_any (section_named ms name)
+at_place ms [] (Free r) = r ∷ []
+at_place ms (m ∷ news) (Free r) = m ∷ []
 
--- The sections that a browser gets: place by place, and after them those that are new to it. What the end has beyond
--- these is stopped.
+-- The new sections that have no place after this one.
+unfoldable pub after_place : Place → List MediaLine → List MediaLine
+after_place (Taken r) news = news
+after_place (Kept name) news = news
+after_place (Free r) [] = []
+after_place (Free r) (m ∷ news) = news
+
+-- The sections place by place, and after them the new ones that got none.
+abbrev pub placed_from : List MediaLine → List Place → List MediaLine → List MediaLine
+placed_from ms [] news = news
+placed_from ms (p ∷ ps) news = at_place ms news p ++ placed_from ms ps (after_place p news)
+
+-- The sections that a browser gets: place by place, with those that are new to it at the free ones and after them. What
+-- the end has beyond these is stopped.
 abbrev pub placed : List Place → List MediaLine → List MediaLine → List MediaLine
-placed places olds ms = flat_map (at_place ms) places ++ filter (is_new olds) ms
+placed places olds ms = placed_from ms places (filter (is_new olds) ms)

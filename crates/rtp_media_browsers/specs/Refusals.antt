@@ -1,6 +1,6 @@
 -- Why a browser's text is refused; of several reasons the first in this list is given.
 use Rattle.std.specs.Prelude.{◌≡◌, ℕ, Bool, true, false, not, ◌&&◌, ◌==◌, nat_lt, List, [], ◌∷◌, count_by, length}
-use Rattle.std.specs.Prelude.{map, Option, Some, None, Result, Ok, Err, if◌then◌else◌}
+use Rattle.std.specs.Prelude.{Option, Some, None, Result, Ok, Err, if◌then◌else◌}
 use Rattle.std.specs.List.{list_all, list_any}
 use Rattle.std.specs.Option.{option_map, option_or}
 use Rattle.rtp_media_sections.specs.Lines.{mid_of}
@@ -18,7 +18,7 @@ use Rattle.rtp_media_browsers.specs.Places.{left}
 use Rattle.rtp_media_browsers.specs.declared.error.BrowserError.{BrowserError}
 use Rattle.rtp_media_browsers.specs.declared.error.BrowserError.TheVariants as error
 use Rattle.rtp_media_browsers.specs.declared.plan.Place.{Place}
-use Rattle.rtp_media_browsers.specs.declared.plan.Place.TheVariants.{Kept, Taken}
+use Rattle.rtp_media_browsers.specs.declared.plan.Place.TheVariants.{Free, Kept, Taken}
 use Rattle.rtp_media_browsers.specs.declared.plan.Plan.{Plan}
 use Rattle.rtp_media_browsers.specs.declared.transport.Transport.{Transport}
 use Rattle.rtp_media_browsers.specs.declared.wish.Wish.{Wish}
@@ -69,9 +69,18 @@ offer_test text olds sdp ms = option_or (name_refusal text sdp.media_lines) (bun
 abbrev pub offer_refusal : List ℕ → Plan → List Wish → Sdp → Option BrowserError
 offer_refusal text plan wishes sdp = offer_test text plan.sections sdp (left (places_of wishes sdp) sdp.media_lines)
 
-unfoldable pub name_at : Place → List ℕ
-name_at (Kept name) = name
-name_at (Taken r) = mid_of r
+-- Whether a section may be at this place of an answer: under its name, or under any at a free one, which the offer may
+-- have used again.
+unfoldable pub may_be_at : Place → MediaLine → Bool
+may_be_at (Kept name) m = is_name name (mid_of m)
+may_be_at (Taken r) m = is_name (mid_of r) (mid_of m)
+may_be_at (Free r) m = true
+
+-- Whether the sections start with those of these places.
+abbrev pub are_at : List Place → List MediaLine → Bool
+are_at [] ms = true
+are_at (p ∷ ps) [] = false
+are_at (p ∷ ps) (m ∷ ms) = may_be_at p m && are_at ps ms
 
 -- Whether the sections start with these mids.
 abbrev pub begin_with : List (List ℕ) → List MediaLine → Bool
@@ -85,7 +94,7 @@ rejected_in m = refused_if m.disabled (error.Rejected (mid_of m))
 -- Why an answer isn't accepted, given its remaining sections.
 abbrev pub answer_test : List ℕ → Plan → Sdp → List MediaLine → Option BrowserError
 answer_test text plan sdp ms = option_or (name_refusal text sdp.media_lines)
-    (option_or (refused_if (not (begin_with (map name_at plan.places) sdp.media_lines)) error.NotCorresponding)
+    (option_or (refused_if (not (are_at plan.places sdp.media_lines)) error.NotCorresponding)
     (option_or (first_of rejected_in ms) (bundle_refusal plan.sections sdp ms)))
 
 abbrev pub answer_refusal : List ℕ → Plan → Sdp → Option BrowserError
@@ -94,7 +103,7 @@ answer_refusal text plan sdp = answer_test text plan sdp (left (places_behind pl
 -- Whether a section of the place's name is there, if one is asked for.
 unfoldable pub is_found : List (List ℕ) → Place → Bool
 is_found names (Kept name) = is_among names name
-is_found names (Taken r) = true
+is_found names _ = true
 
 -- Whether a text has the end's sections, in order, and those of the plan.
 abbrev pub has_planned : Plan → List MediaLine → Bool

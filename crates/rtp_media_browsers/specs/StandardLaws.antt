@@ -11,7 +11,6 @@ use Rattle.sdp_formats_data.specs.Sessions as sessions
 use Rattle.sdp_formats_data.specs.declared.media.MediaLine.{MediaLine}
 use Rattle.sdp_formats_data.specs.declared.session.Session.{Session}
 use Rattle.sdp_formats_data.specs.declared.session.SessionAttribute.TheVariants.{Group}
-use Rattle.sdp_formats_values.specs.declared.candidate.IceCreds.{IceCreds}
 use Rattle.sdp_formats_values.specs.declared.setup.Setup.{Setup}
 use Rattle.sdp_formats_values.specs.declared.setup.Setup.TheVariants.{ActPass, Active, Passive}
 use Rattle.rtp_media_browsers.specs.Fit.{left_over, may_say, settled}

@@ -1,6 +1,7 @@
 -- Lines of browsers' texts that browsers take and the reader refuses (RFC 8866 5 has at most one line `b=` of a kind,
 -- and none after an attribute; RFC 8866 6.6 maps a payload type once; RFC 8829 5.2.1 names each section in use).
-use Rattle.std.specs.Prelude.{ℕ, ◌+◌, ◌-◌, ◌^◌, ◌==◌, Bool, true, false, not, ◌&&◌, ◌||◌, length, List, [], ◌∷◌, ◌++◌, codes}
+use Rattle.std.specs.Prelude.{ℕ, ◌+◌, ◌-◌, ◌^◌, ◌==◌, Bool, true, false, not, ◌&&◌, ◌||◌, length, List, [], ◌∷◌, ◌++◌}
+use Rattle.std.specs.Prelude.{codes}
 use Rattle.std.specs.Prelude.{nat_eq, Option, None, Some, is_some, if◌then◌else◌}
 use Rattle.std.specs.Cmp.Lexicographic.{pointwise}
 use Rattle.std.specs.Fmt.{decimal}

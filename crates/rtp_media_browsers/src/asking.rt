@@ -99,7 +99,7 @@ fn is_for_mid(mid: Mid, asked: &NamedWish) -> bool
     ensures { result ≡ is_for_mid mid asked.now }
 {
     match asked.target {
-        Target::Mid(name) => name.as_str() == mid.as_str(),
+        Target::Mid(name) => name.as_bytes() == mid.as_bytes(),
         Target::Kind(_) => false,
     }
 }

@@ -15,7 +15,7 @@ use crate::placing::{left, places_of};
 use crate::plan::Plan;
 use crate::reading::{handed, read_whole};
 use crate::refusals::{test_answer, test_offer, test_own};
-use crate::stopping::answered_places;
+use crate::stopping::{answered_places, told_places};
 use crate::telling::told;
 use crate::tidying::tidied;
 use crate::transport::Transport;
@@ -25,7 +25,7 @@ use std::alloc::Global;
 
 /// What an end is handed of an offer that is tidied.
 #[tactic(auto, using(crate::proofs::Refused::unread, crate::proofs::Refused::want_of_memory, crate::proofs::Refused::tested))]
-fn offer_handed(
+pub(crate) fn offer_handed(
     alloc: Global,
     plan: &mut Plan,
     offer: &str,
@@ -127,11 +127,13 @@ pub fn answer_for_end(alloc: Global, plan: &mut Plan, answer: &str) -> Result<St
     answer_handed(alloc, plan, answer.as_str())
 }
 
-/// The text that a browser gets for an end's answer or offer: its sections in the browser's places, new ones of an
-/// offer after them, and the transport's lines after the name of each. A section that isn't answered, or that was
-/// stopped, is rejected in its place, and isn't in the bundle (RFC 8829 5.2.2 and 5.3.1, RFC 9143 7.3.3). An answer
-/// lists payload types in the offer's order (RFC 3264 6.1). The version of `o=` is 2 in the first text, and the next
-/// one in each that differs from the last (RFC 3264 8). What the plan's identity gives is in the text.
+/// The text that a browser gets for an end's answer or offer: its sections in the browser's places, with the
+/// transport's lines after the name of each. A section that isn't answered, or that was stopped, is rejected in its
+/// place, and isn't in the bundle (RFC 8829 5.2.2 and 5.3.1, RFC 9143 7.3.3). New ones of an offer get the places that
+/// were rejected in an earlier exchange, from the first on, and follow after all places if there are more (RFC 8829
+/// 5.2.2). An answer lists payload types in the offer's order (RFC 3264 6.1). The version of `o=` is 2 in the first
+/// text, and the next one in each that differs from the last (RFC 3264 8). What the plan's identity gives is in the
+/// text.
 ///
 /// # Errors
 ///
@@ -152,6 +154,8 @@ pub fn for_browser(
     test_own(alloc, plan, transport, &sdp)?;
     let dressed = dressed(alloc, plan, transport, sdp)?;
     let (text, said) = told_text(alloc, &plan.identity, &plan.said, &dressed)?;
+    let places = told_places(alloc, plan)?;
+    plan.places = places;
     plan.setup = settled(plan.setup, transport.setup);
     plan.is_answering = false;
     plan.said = Some(said);

@@ -16,11 +16,12 @@ impl Place {
         match self {
             Place::Kept(name) => Ok(Place::Kept(*name)),
             Place::Taken(section) => Ok(Place::Taken(section.clone(alloc)?)),
+            Place::Free(section) => Ok(Place::Free(section.clone(alloc)?)),
         }
     }
 }
 
-fn clone_all(alloc: Global, places: &[Place]) -> Result<Listed<Place>, AllocError>
+pub(crate) fn clone_all(alloc: Global, places: &[Place]) -> Result<Listed<Place>, AllocError>
     ensures { IfOk result (λ copies. copies ≡ places.now) }
 {
     let mut copies = Vec::new(alloc);

@@ -13,10 +13,10 @@ use sdp_formats_grammar::Listed;
 use std::alloc::{AllocError, Global};
 
 /// Whether it is the section of a name.
-fn has_name(mid: Mid, section: &MediaLine) -> bool
+pub(crate) fn has_name(mid: Mid, section: &MediaLine) -> bool
     ensures { result ≡ has_name mid section.now }
 {
-    mid.as_str() == mid_of(section).as_str()
+    mid.as_bytes() == mid_of(section).as_bytes()
 }
 
 /// The section of a name.

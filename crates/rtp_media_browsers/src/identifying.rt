@@ -62,7 +62,7 @@ fn named_lines(
 fn is_track_of(mid: Mid, track: &Track) -> bool
     ensures { result ≡ is_track_of mid track.now }
 {
-    track.mid.as_str() == mid.as_str()
+    track.mid.as_bytes() == mid.as_bytes()
 }
 
 /// Adds the streams and tracks of a section.

@@ -2,7 +2,8 @@
 
 ghost use Rattle.std.specs.Prelude.{List};
 ghost use Rattle.sdp_formats_data.specs.declared.media.MediaLine.{MediaLine};
-ghost use Rattle.rtp_media_browsers.specs.AnswerLaws.{AnswersEachSection};
+ghost use Rattle.rtp_media_browsers.specs.AnswerLaws.{AnswersEachSection, TextsAreWhole};
+ghost use Rattle.rtp_media_browsers.specs.InCommon.{AnswersInCommon, OnlyRejects};
 ghost use Rattle.rtp_media_browsers.specs.Laws.{AreWanted, ComesBack, EachInItsPlace, GoesOn, IsHalted, LinesStay};
 ghost use Rattle.rtp_media_browsers.specs.Laws.{NothingChanges, SectionsComeBack, TakenAreRejected};
 ghost use Rattle.rtp_media_browsers.specs.StandardLaws.{EndsWriteEndTexts, OrdersTypes, RolesFit, TellsByLevels};
@@ -28,9 +29,11 @@ pub fn places_law()
 
 /// An answer for a browser, of its first offer or a later one, has a section for each of the offer's, in its place and
 /// under its name; port 0 is that of exactly those that aren't answered, and the bundle names exactly the others (RFC
-/// 3264 6, RFC 8829 5.3.1, RFC 9143 7.3.3).
+/// 3264 6, RFC 8829 5.3.1, RFC 9143 7.3.3). Any text, the end's offers too, has a section at each place of the plan,
+/// and its bundle names exactly those whose port isn't 0 (RFC 3264 8).
 pub fn answer_law()
-    ensures { AnswersEachSection }
+    ensures answers { AnswersEachSection }
+    ensures texts { TextsAreWhole }
 {}
 
 /// Whatever the browser stops, an end is handed its own sections first and in its order, so that it never refuses a
@@ -69,4 +72,11 @@ pub fn order_law()
 /// An end's offer or answer is a text as ends write it, the premise of `return_law`.
 pub fn end_text_law()
     ensures { EndsWriteEndTexts }
+{}
+
+/// Wishes with sections rejected that have no row in common are otherwise as they were, and the end then refuses what
+/// it is handed for want of a row in common only if that is a section that was stopped (RFC 3264 6).
+pub fn in_common_law()
+    ensures others { OnlyRejects }
+    ensures answers { AnswersInCommon }
 {}

@@ -11,6 +11,7 @@ mod fit;
 mod following;
 mod identifying;
 mod identity;
+mod in_common;
 mod kept_lines;
 mod laws;
 mod lines;
@@ -33,9 +34,10 @@ pub use calls::{answer_for_end, for_browser, for_end};
 pub use defaults::{map_for_browsers, rows_for_browsers};
 pub use error::BrowserError;
 pub use identity::{Identity, Said, Track};
+pub use in_common::wishes_in_common;
 pub use laws::{
-    answer_law, end_text_law, following_law, levels_law, lines_law, order_law, places_law,
-    return_law, roles_law,
+    answer_law, end_text_law, following_law, in_common_law, levels_law, lines_law, order_law,
+    places_law, return_law, roles_law,
 };
 pub use plan::{Place, Plan, Remote};
 pub use transport::{Gathering, Transport};

@@ -1,8 +1,9 @@
 //! The places of the sections of a browser's text.
 
 ghost use Rattle.std.specs.Prelude.{◌≡◌, ◌++◌, IfOk, OnOk, filter};
-ghost use Rattle.rtp_media_browsers.specs.Places.{at_place, is_bundled_only, is_map, is_place_of, is_taken, left};
-ghost use Rattle.rtp_media_browsers.specs.Places.{left_at, place_of, placed, places_from, rejected, rejected_media};
+ghost use Rattle.rtp_media_browsers.specs.Places.{after_place, at_place, if_any, is_bundled_only, is_map};
+ghost use Rattle.rtp_media_browsers.specs.Places.{is_place_of, is_taken, left, left_at, place_of, placed, placed_from};
+ghost use Rattle.rtp_media_browsers.specs.Places.{places_from, rejected, rejected_media};
 ghost use Rattle.std.specs.Option.{option_copied};
 
 use crate::following::{push_new, section_named};
@@ -125,7 +126,7 @@ fn push_left(
 ) -> Result<(), AllocError>
     ensures { OnOk result (kept.new.items ≡ kept.old.items ++ left_at (option_copied place.entry) section.now) }
 {
-    if matches!(place, Some(Place::Taken(_))) {
+    if matches!(place, Some(Place::Taken(_) | Place::Free(_))) {
         return Ok(());
     }
     kept.push(section.clone(alloc)?)?;
@@ -153,31 +154,89 @@ pub(crate) fn is_place_of(mid: Mid, place: &Place) -> bool
     ensures { result ≡ is_place_of mid place.now }
 {
     match place {
-        Place::Kept(name) => mid.as_str() == name.as_str(),
-        Place::Taken(_) => false,
+        Place::Kept(name) => mid.as_bytes() == name.as_bytes(),
+        Place::Taken(_) | Place::Free(_) => false,
     }
 }
 
-/// Adds what a browser gets at a place.
+/// What a browser gets at a place, given the new sections that have no place yet.
 #[tactic(auto, unfolding(crate::specs::Places::at_place))]
-fn push_at(
-    alloc: Global,
-    sections: &[MediaLine],
-    place: &Place,
-    all: &mut Listed<MediaLine>,
-) -> Result<(), AllocError>
-    ensures { OnOk result (all.new ≡ all.old ++ at_place sections.now place.now) }
+fn at_place<'a>(
+    sections: &'a [MediaLine],
+    news: &'a [MediaLine],
+    place: &'a Place,
+) -> Option<&'a MediaLine>
+    ensures { if_any (option_copied result) ≡ at_place sections.now news.now place.now }
 {
     match place {
-        Place::Taken(section) => all.push(section.clone(alloc)?),
-        Place::Kept(name) => match section_named(sections, *name) {
-            Some(section) => all.push(section.clone(alloc)?),
-            None => Ok(()),
+        Place::Taken(section) => Some(section),
+        Place::Kept(name) => section_named(sections, *name),
+        Place::Free(section) => match news.first() {
+            Some(first) => Some(first),
+            None => Some(section),
         },
     }
 }
 
-/// The sections that a browser gets: place by place, and those that are new to it.
+/// The new sections that have no place after this one.
+#[tactic(auto, unfolding(crate::specs::Places::after_place))]
+fn after_place<'a>(place: &Place, news: &'a [MediaLine]) -> &'a [MediaLine]
+    ensures { result.now ≡ after_place place.now news.now }
+{
+    match (place, news) {
+        (Place::Free(_), [_, rest @ ..]) => rest,
+        _ => news,
+    }
+}
+
+/// Adds what a browser gets at a place.
+fn push_at(
+    alloc: Global,
+    section: Option<&MediaLine>,
+    all: &mut Listed<MediaLine>,
+) -> Result<(), AllocError>
+    ensures { OnOk result (all.new ≡ all.old ++ if_any (option_copied section.entry)) }
+{
+    match section {
+        Some(section) => all.push(section.clone(alloc)?),
+        None => Ok(()),
+    }
+}
+
+/// Adds copies of sections.
+fn push_all(
+    alloc: Global,
+    sections: &[MediaLine],
+    all: &mut Listed<MediaLine>,
+) -> Result<(), AllocError>
+    ensures { OnOk result (all.new ≡ all.old ++ sections.now) }
+{
+    for section in sections {
+        all.push(section.clone(alloc)?)?;
+    }
+    Ok(())
+}
+
+/// The sections place by place, with new ones at the free places and after them.
+fn placed_from(
+    alloc: Global,
+    sections: &[MediaLine],
+    places: &[Place],
+    news: &[MediaLine],
+) -> Result<Listed<MediaLine>, AllocError>
+    ensures { IfOk result (λ l. l ≡ placed_from sections.now places.now news.now) }
+{
+    let mut all = Listed::new(alloc);
+    let mut left = news;
+    for place in places {
+        push_at(alloc, at_place(sections, left, place), &mut all)?;
+        left = after_place(place, left);
+    }
+    push_all(alloc, left, &mut all)?;
+    Ok(all)
+}
+
+/// The sections that a browser gets: place by place, with those that are new to it at the free ones and after them.
 pub(crate) fn placed(
     alloc: Global,
     places: &[Place],
@@ -186,10 +245,7 @@ pub(crate) fn placed(
 ) -> Result<Listed<MediaLine>, AllocError>
     ensures { IfOk result (λ l. l ≡ placed places.now olds.now sections.now) }
 {
-    let mut all = Listed::new(alloc);
-    for place in places {
-        push_at(alloc, sections, place, &mut all)?;
-    }
-    push_new(alloc, olds, sections, &mut all)?;
-    Ok(all)
+    let mut news = Listed::new(alloc);
+    push_new(alloc, olds, sections, &mut news)?;
+    placed_from(alloc, sections, places, news.as_slice())
 }

@@ -15,8 +15,11 @@ use std::alloc::Global;
 pub enum Place {
     /// The section of the end with this mid.
     Kept(Mid),
-    /// A section that isn't answered, or that was stopped: what the browser gets in its place.
+    /// A section that isn't answered, or that was stopped: what the browser gets in its place, with port 0.
     Taken(MediaLine),
+    /// The same once port 0 was said and answered: an own offer puts a new section there, if it has one (RFC 8829
+    /// 5.2.2).
+    Free(MediaLine),
 }
 
 /// Written by hand, so that crates that drop this type need no proof about its fields.
@@ -24,7 +27,7 @@ impl Drop for Place {
     fn drop(self) {
         match self {
             Self::Kept(_name) => {}
-            Self::Taken(_section) => {}
+            Self::Taken(_section) | Self::Free(_section) => {}
         }
     }
 }

@@ -1,11 +1,11 @@
 //! Why a browser's text, or a text for one, is refused.
 
-ghost use Rattle.std.specs.Prelude.{◌≡◌, IfOk, map};
+ghost use Rattle.std.specs.Prelude.{◌≡◌, IfOk};
 ghost use Rattle.sdp_formats_data.specs.Lookups.{first_of};
 ghost use Rattle.sdp_formats_data.specs.WholeTexts.{is_name};
 ghost use Rattle.rtp_media_browsers.specs.Names.{mids_of};
 ghost use Rattle.rtp_media_browsers.specs.Refusals.{answer_test, begin_with, browser_refusal, bundle_refusal};
-ghost use Rattle.rtp_media_browsers.specs.Refusals.{has_no_print, has_planned, is_found, keys_in, name_at};
+ghost use Rattle.rtp_media_browsers.specs.Refusals.{are_at, has_no_print, has_planned, is_found, keys_in, may_be_at};
 ghost use Rattle.rtp_media_browsers.specs.Refusals.{name_refusal, offer_test};
 ghost use Rattle.std.specs.List.{list_all};
 ghost use Rattle.rtp_media_browsers.specs.Refusals.{Checks, outside_in, rejected_in, twice_refusal};
@@ -168,32 +168,10 @@ fn first_rejected(sections: &[MediaLine]) -> Option<BrowserError>
     None
 }
 
-/// The name of the section at a place.
-#[tactic(auto, unfolding(crate::specs::Refusals::name_at))]
-fn name_at(place: &Place) -> Mid
-    ensures { result ≡ name_at place.now }
-{
-    match place {
-        Place::Kept(name) => *name,
-        Place::Taken(section) => mid_of(section),
-    }
-}
-
-/// The names of all sections of the plan.
-fn names_of(alloc: Global, places: &[Place]) -> Result<Vec<Mid>, AllocError>
-    ensures { IfOk result (λ names. names.items ≡ map name_at places.now) }
-{
-    let mut names = Vec::new(alloc);
-    for place in places {
-        names.push(name_at(place))?;
-    }
-    Ok(names)
-}
-
 fn is_same_name(name: Mid, other: Mid) -> bool
     ensures { result ≡ is_name name other }
 {
-    name.as_str() == other.as_str()
+    name.as_bytes() == other.as_bytes()
 }
 
 /// Whether the sections begin with those of these names.
@@ -204,6 +182,35 @@ fn begin_with(names: &[Mid], sections: &[MediaLine]) -> bool
         match sections.get(number) {
             Some(section) => {
                 if !is_same_name(*name, mid_of(section)) {
+                    return false;
+                }
+            }
+            None => return false,
+        }
+    }
+    true
+}
+
+/// Whether a section may be at this place of an answer.
+#[tactic(auto, unfolding(crate::specs::Refusals::may_be_at))]
+fn may_be_at(place: &Place, section: &MediaLine) -> bool
+    ensures { result ≡ may_be_at place.now section.now }
+{
+    match place {
+        Place::Kept(name) => is_same_name(*name, mid_of(section)),
+        Place::Taken(rejected) => is_same_name(mid_of(rejected), mid_of(section)),
+        Place::Free(_) => true,
+    }
+}
+
+/// Whether the sections begin with those of these places.
+fn are_at(places: &[Place], sections: &[MediaLine]) -> bool
+    ensures { result ≡ are_at places.now sections.now }
+{
+    for (number, place) in places.iter().enumerate() {
+        match sections.get(number) {
+            Some(section) => {
+                if !may_be_at(place, section) {
                     return false;
                 }
             }
@@ -229,8 +236,7 @@ pub(crate) fn test_answer(
     ensures { Checks (answer_test text.now plan.now sdp.now sections.now) result }
 {
     refuse(name_refusal(alloc, text, sdp.media_lines.as_slice())?)?;
-    let names = names_of(alloc, plan.places.as_slice())?;
-    if !begin_with(names.as_slice(), sdp.media_lines.as_slice()) {
+    if !are_at(plan.places.as_slice(), sdp.media_lines.as_slice()) {
         return Err(BrowserError::NotCorresponding);
     }
     refuse(first_rejected(sections))?;
@@ -244,7 +250,7 @@ fn is_found(names: &NameSet<'_>, place: &Place) -> bool
 {
     match place {
         Place::Kept(name) => names.has(*name),
-        Place::Taken(_) => true,
+        Place::Taken(_) | Place::Free(_) => true,
     }
 }
 

@@ -3,10 +3,12 @@
 ghost use Rattle.std.specs.Prelude.{◌≡◌, IfOk, OnErr, OnOk, map};
 ghost use Rattle.std.specs.Option.{option_copied};
 ghost use Rattle.rtp_media_browsers.specs.Following.{section_named};
-ghost use Rattle.rtp_media_browsers.specs.Places.{answered_or_new, answered_place, answered_places};
+ghost use Rattle.rtp_media_browsers.specs.Calls.{told_places};
+ghost use Rattle.rtp_media_browsers.specs.Places.{answered_or_new, answered_place, answered_places, freed};
 ghost use Rattle.rtp_media_browsers.specs.Places.{stopped_place};
 
-use crate::following::section_named;
+use crate::copies::clone_all;
+use crate::following::{has_name, section_named};
 use crate::placing::rejected;
 use crate::plan::{Place, Plan};
 use rtp_media_sections::mid_of;
@@ -22,11 +24,22 @@ fn answered_place(alloc: Global, place: &Place, section: &MediaLine) -> Result<P
     match place {
         Place::Kept(name) => {
             if section.disabled {
-                return Ok(Place::Taken(rejected(alloc, section)?));
+                return Ok(Place::Free(rejected(alloc, section)?));
             }
             Ok(Place::Kept(*name))
         }
-        Place::Taken(_) => place.clone(alloc),
+        Place::Taken(old) => {
+            if section.disabled {
+                return Ok(Place::Free(old.clone(alloc)?));
+            }
+            place.clone(alloc)
+        }
+        Place::Free(old) => {
+            if section.disabled && has_name(mid_of(old), section) {
+                return place.clone(alloc);
+            }
+            Ok(Place::Kept(mid_of(section)))
+        }
     }
 }
 
@@ -59,6 +72,36 @@ pub(crate) fn answered_places(
     Ok(after)
 }
 
+/// The place after an answer to the browser, which says port 0 of what isn't answered.
+fn freed(alloc: Global, place: &Place) -> Result<Place, AllocError>
+    ensures { IfOk result (λ p. p ≡ freed place.now) }
+{
+    match place {
+        Place::Taken(section) => Ok(Place::Free(section.clone(alloc)?)),
+        Place::Kept(_) | Place::Free(_) => place.clone(alloc),
+    }
+}
+
+/// The places after a text for the browser.
+pub(crate) fn told_places(alloc: Global, plan: &Plan) -> Result<Listed<Place>, AllocError>
+    ensures { IfOk result (λ l. l ≡ told_places plan.now) }
+{
+    if !plan.is_answering {
+        return clone_all(alloc, plan.places.as_slice());
+    }
+    all_freed(alloc, plan.places.as_slice())
+}
+
+fn all_freed(alloc: Global, places: &[Place]) -> Result<Listed<Place>, AllocError>
+    ensures { IfOk result (λ l. l ≡ map freed places.now) }
+{
+    let mut after = Listed::new(alloc);
+    for place in places {
+        after.push(freed(alloc, place)?)?;
+    }
+    Ok(after)
+}
+
 /// The place of a section that the end stops, and any other place as it is.
 #[tactic(auto, unfolding(crate::specs::Places::stopped_place))]
 fn stopped_place(
@@ -71,7 +114,7 @@ fn stopped_place(
 {
     match (section, place) {
         (Some(section), Place::Kept(name)) => {
-            if mid.as_str() == name.as_str() {
+            if mid.as_bytes() == name.as_bytes() {
                 return Ok(Place::Taken(rejected(alloc, section)?));
             }
             Ok(Place::Kept(*name))
@@ -98,8 +141,9 @@ fn stopped_places(
 
 impl Plan {
     /// Stops the section of a name: the end's next text rejects it in its place (RFC 8829 5.2.2). The end still has
-    /// the section, and offers it inactive. A name that the end doesn't have changes nothing. If the offer is then
-    /// withdrawn, go on with a copy of the plan that was made before.
+    /// the section, and offers it inactive. A name that the end doesn't have changes nothing. Once the browser answered
+    /// that, its place is free for a new section. If the offer is then withdrawn, go on with a copy of the plan that
+    /// was made before.
     ///
     /// # Errors
     ///

@@ -122,7 +122,8 @@ pub(crate) fn told_text(
     last: &Option<Said>,
     sdp: &Sdp,
 ) -> Result<(String, Said), BrowserError>
-    ensures written { IfOk result (λ r. IsWritten (told_text identity.now last.now sdp.now) sdp.now (string_bytes r.0)) }
+    ensures written { IfOk result (λ r. IsWritten (told_text identity.now last.now sdp.now) sdp.now
+        (string_bytes r.0)) }
     ensures said { IfOk result (λ r. r.1 ≡ said_of identity.now last.now sdp.now) }
     ensures refused { IfErr result (λ e. IsUnwritten (told_text identity.now last.now sdp.now) sdp.now e) }
 {

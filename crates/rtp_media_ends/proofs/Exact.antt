@@ -1,11 +1,8 @@
 -- All datagrams of a sending stream arrive, and the polls answer its units.
 use Rattle.std.proofs.Common.{◌≡◌, ℕ, zero, suc, ◌+◌, ◌-◌, ◌%◌, ◌<◌, ◌≤◌, refl, sym, ◌∙◌, ap, ap₂, subst}
-use Rattle.std.proofs.Common.{arith, Bool, true, false, cond, List, [], ◌∷◌, ◌++◌, length, map, replicate, true≢false}
-use Rattle.std.specs.Prelude.{Option, Some, None, Result, Ok, if◌then◌else◌, filter, slice_index_or}
-use Rattle.std.specs.List.{filter_map, cons_option}
-use Rattle.rtp_wire.specs.Header.{header_in}
-use Rattle.rtp_wire.specs.Maps.{empty_map}
-use Rattle.rtp_wire.specs.declared.header.RtpHeader.{RtpHeader}
+use Rattle.std.proofs.Common.{arith, List, [], ◌∷◌, ◌++◌, length, map, replicate}
+use Rattle.std.specs.Prelude.{Option, Some, Result, Ok, slice_index_or}
+use Rattle.std.specs.List.{cons_option}
 use Rattle.h26x_payload.specs.Dispatch.{KeepCodecLawInForms}
 use Rattle.payload_core_base.specs.Format.{Format}
 use Rattle.payload_core_base.specs.Outgoing.{Outgoing}
@@ -28,7 +25,7 @@ use Rattle.h26x_payload.specs.Codings.{forms_for}
 use Rattle.rtp_media_streams.specs.Rows.{format_of, settings_in}
 use Rattle.rtp_media_streams.specs.Sending.{Sample, Sending, packet_limit}
 use Rattle.rtp_media_streams.specs.Sending.{payloads_of_samples, samples_of}
-use Rattle.rtp_media_streams.specs.Receiving.{Receiving, brought, is_own, opened_receiver, values_read}
+use Rattle.rtp_media_streams.specs.Receiving.{Receiving, opened_receiver}
 use Rattle.rtp_media_streams.specs.Receiving.{with_stream}
 use Rattle.rtp_media_streams.proofs.Configured.{same-reading}
 use Rattle.rtp_media_streams.proofs.Draining.{answered, heard_polls}
@@ -36,10 +33,10 @@ use Rattle.rtp_media_streams.proofs.Sent.{datagrams_of-consecutive}
 use Rattle.rtp_media_ends.specs.Ends.{EndState, receiver_at}
 use Rattle.rtp_media_ends.specs.FullArrival.{AreSound, HasAllOf, IsSender, after_datagrams}
 use Rattle.rtp_media_ends.specs.FullArrival.{coding_of}
-use Rattle.rtp_media_ends.specs.FullArrival.{count_of, is_header_of, is_own_datagram, sent_datagram}
+use Rattle.rtp_media_ends.specs.FullArrival.{count_of, sent_datagram}
 use Rattle.rtp_media_ends.specs.FullArrival.{sent_samples}
 use Rattle.rtp_media_ends.specs.FullArrival.{units_of}
-use Rattle.rtp_media_ends.specs.OwnEvents.{content_event, event_by, event_in, own_events}
+use Rattle.rtp_media_ends.specs.OwnEvents.{event_in, own_events}
 use Rattle.rtp_media_ends.proofs.Datagrams.{AreTheirs, IsFor, sent-event, theirs}
 use Rattle.rtp_media_ends.proofs.Isolation.{isolated, same-after}
 
@@ -55,33 +52,6 @@ brings s r samples x for sound are low high =
     ∙ sent-event s r s.redundancy ps s.next (x - s.next) for sound.typed sound.payload_type sound.wire_type
     sound.ssrc are.sendable (omega (arith, low, high, are.count))
     ∙ ap₂ (λ (k : ℕ) (cs : List Content). Some (Comes (k % 65536) (numbered s.next cs x))) back are.contents
-
--- what is not the stream's own is no event of it
-own-filter : (r : Receiving) (ds : List (List ℕ)) → own_events r (filter (is_own_datagram r.ssrc r.types) ds)
-    ≡ own_events r ds
-own-filter r [] = refl
-own-filter r (d ∷ ds) = go (own-filter r ds) (header_in empty_map d) refl where
-  by : own_events r (filter (is_own_datagram r.ssrc r.types) ds) ≡ own_events r ds → (b : Bool) (o : Option Event)
-      → (b ≡ false → o ≡ None) → event_in r d ≡ o →
-      filter_map (event_in r) (cond b (d ∷ filter (is_own_datagram r.ssrc r.types) ds)
-      (filter (is_own_datagram r.ssrc r.types) ds)) ≡ cons_option o (own_events r ds)
-  by ih true o none e = ap₂ (λ (q : Option Event) (es : List Event). cons_option q es) e ih
-  by ih false o none e = ih ∙ ap (λ (q : Option Event). cons_option q (own_events r ds)) (sym (none refl))
-
-  not-own : (b : Bool) (o : Option Event) → b ≡ false → (if b then o else None) ≡ None
-  not-own true o h = absurd (true≢false h)
-  not-own false o h = refl
-
-  go : own_events r (filter (is_own_datagram r.ssrc r.types) ds) ≡ own_events r ds → (o : Option RtpHeader)
-      → header_in empty_map d ≡ o → own_events r (filter (is_own_datagram r.ssrc r.types) (d ∷ ds))
-      ≡ own_events r (d ∷ ds)
-  go ih None e = by ih (is_own_datagram r.ssrc r.types d) (event_in r d)
-      (λ h. ap (λ (x : Option RtpHeader). event_by r x d) e) refl
-  go ih (Some h) e = by ih (is_own_datagram r.ssrc r.types d) (event_in r d)
-      (λ no. ap (λ (x : Option RtpHeader). event_by r x d) e
-      ∙ not-own (is_own r h.ssrc h.payload_type)
-      (content_event h (values_read r.map d) (brought r.ssrc r.types h d))
-      (sym (ap (is_header_of r.ssrc r.types) e) ∙ no)) refl
 
 -- the events of arrivals
 arrivals-events : (s : Sending) (r : Receiving) (samples : List Sample) (past xs : List ℕ) → IsFor r s → IsSender s
@@ -146,7 +116,8 @@ exact law e stream holding sender samples arrivals ds answers after all out =
     let f : ℕ → Content = numbered sender.next (datagrams ss) in
     let are : AreTheirs sender samples = all-theirs law sender samples all.sound all.samples_sound in
     let events : own_events r ds ≡ map (event_of f) (map Arrive arrivals) =
-    sym (own-filter r ds) ∙ ap (own_events r) all.own
+    subst (λ (x : Receiving). own_events x ds ≡ own_events x (map (sent_datagram sender samples) arrivals))
+    all.receiver.stream_is all.own
     ∙ arrivals-events sender r samples [] arrivals (refl, refl, refl) all.sound are all.arrive in
     let same : receiver_at e stream ≡ with_stream r (receiver_at e stream).stream =
     all.receiver.stream_is ∙ ap (with_stream r) (sym (ap (λ (x : Receiving). x.stream) all.receiver.stream_is)) in

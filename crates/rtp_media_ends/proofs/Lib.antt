@@ -10,6 +10,7 @@ pub mod Refusals
 pub mod Repaired
 pub mod RepairedArrivals
 pub mod Rising
+pub mod SentAt
 pub mod SentRepairs
 pub mod Stopping
 pub mod Transparent

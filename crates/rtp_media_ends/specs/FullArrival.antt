@@ -1,5 +1,5 @@
 use Rattle.std.specs.Prelude.{ℕ, ◌≡◌, ◌+◌, ◌-◌, ◌^◌, ◌<◌, ◌≤◌, Bool, true, false, List, [], ◌∷◌, length}
-use Rattle.std.specs.Prelude.{map, filter, take, ◌⊎◌, All, Option, Some, None, slice_index_or}
+use Rattle.std.specs.Prelude.{map, take, ◌⊎◌, All, Option, Some, None, slice_index_or}
 use Rattle.rtp_wire.specs.Carried.{AreValues}
 use Rattle.rtp_wire.specs.Header.{header_in}
 use Rattle.rtp_wire.specs.Maps.{empty_map}
@@ -17,6 +17,7 @@ use Rattle.rtp_media_streams.specs.Types.{is_key_of}
 use Rattle.rtp_media_streams.specs.declared.types.PayloadTypes.{PayloadTypes}
 use Rattle.rtp_media_ends.specs.Ends.{EndState, receiver_at, with_streams}
 use Rattle.rtp_media_ends.specs.EndArrivals.{verdict_of, after_datagram}
+use Rattle.rtp_media_ends.specs.OwnEvents.{own_events}
 use Rattle.rtp_media_ends.specs.Repairs.{IsKeyBeside}
 use Rattle.rtp_media_stream_table.specs.Arrivals.{stream_for}
 use Rattle.rtp_media_stream_table.specs.declared.received.Received.{Received}
@@ -102,10 +103,12 @@ pub record AreSound (s : Sending) (samples : List Sample) : Type 0 where
   pub well_formed : AreWellFormed (coding_of s) (packet_limit s) (samples_of s samples)
   pub values : All (λ x. AreValues x.values) samples
 
--- These datagrams include every datagram of a sending stream's samples, at most as many as the receiver may hold: each
--- at least once, the first time before any whose number is 1,024 or more above it; the first to come is numbered below
--- 65,536, and repeats are less than 32,768 below the greatest. Nobody else sends under its SSRC and types. The
--- receiving stream has the same payload types, extension map and row, and has heard nothing yet.
+-- What these datagrams bring a receiving stream is what datagrams of a sending stream's samples bring it in this order
+-- of arrival: a retransmission counts as the datagram that it repeats, and any other datagram brings nothing. Every
+-- datagram of the samples arrives, at most as many as the receiver may hold: each at least once, the first time before
+-- any whose number is 1,024 or more above it; the first to come is numbered below 65,536, and repeats are less than
+-- 32,768 below the greatest. The receiving stream has the same payload types, extension map and row, and has heard
+-- nothing yet.
 pub record HasAllOf (e : EndState) (stream : ℕ) (holding : Holding) (sender : Sending) (samples : List Sample)
     (arrivals : List ℕ) (datagrams : List (List ℕ)) : Type 0 where
   pub receiver : HasReceiver e stream (opened_receiver sender.ssrc sender.types sender.map sender.row holding)
@@ -113,5 +116,6 @@ pub record HasAllOf (e : EndState) (stream : ℕ) (holding : Holding) (sender : 
   pub samples_sound : AreSound sender samples
   pub numbers : sender.next + count_of sender samples ≤ 2 ^ 62
   pub few : count_of sender samples ≤ holding.held
-  pub own : filter (is_own_datagram sender.ssrc sender.types) datagrams ≡ map (sent_datagram sender samples) arrivals
+  pub own : own_events (receiver_at e stream) datagrams
+      ≡ own_events (receiver_at e stream) (map (sent_datagram sender samples) arrivals)
   pub arrive : AreGoodArrivals sender.next (count_of sender samples) [] arrivals

@@ -6,5 +6,6 @@ pub mod OpensAt
 pub mod OwnEvents
 pub mod Params
 pub mod Repairs
+pub mod SendSteps
 pub mod Stops
 pub mod Transparency

@@ -1,12 +1,13 @@
 //! An end of a session.
 
-ghost use Rattle.std.specs.Prelude.{◌≡◌, ◌≢◌, ◌≤◌, Some, None, Ok, Err, true, length, OnOk, OnErr, IfOk, IfErr};
+ghost use Rattle.std.specs.Prelude.{◌≡◌, ◌≢◌, ◌≤◌, [], Ok, Err, true, length, OnOk, OnErr, IfOk, IfErr};
 ghost use Rattle.rtp_media_streams.specs.Repairing.{repair, with_repair};
-ghost use Rattle.rtp_media_streams.specs.Sending.{HasFailed, sent_datagrams, after_sample, refusal_of_sample};
+ghost use Rattle.rtp_media_streams.specs.SendSteps.{SendsBy, left_in, returned};
 ghost use Rattle.rtp_media_streams.specs.Sending.{skipped_to};
 ghost use Rattle.rtp_media_sections.specs.Agreement.{agreed_row_of};
 ghost use Rattle.rtp_media_ends.specs.Ends.{agreed_red, fixed_end, sender_at, with_sender, is_receiver_at};
 ghost use Rattle.rtp_media_ends.specs.Ends.{is_sender_at};
+ghost use Rattle.rtp_media_ends.specs.SendSteps.{send_step_at};
 
 mod closing;
 mod exchanges;
@@ -22,6 +23,7 @@ use rtp_media_sections::AgreedSection;
 use rtp_media_stream_table::StreamTable;
 use rtp_media_streams::{Datagram, RepairError, SampleError};
 use rtp_wire::{ExtensionValues, Frequency, MediaTime, Mid, Pt};
+use sdp_formats_rounds::CodecConfig;
 use sdp_formats_rows::PayloadParams;
 use std::alloc::Global;
 use std::marker::Model;
@@ -74,6 +76,14 @@ impl End {
             exchange: Exchange::fixed(alloc)?,
             streams: StreamTable::new(alloc),
         })
+    }
+
+    /// The rows of the end, in order of preference, as the exchanges so far left them: those that were matched are
+    /// locked under their payload types.
+    pub fn config(&self) -> &CodecConfig
+        ensures { result.now ≡ self.now.exchange.config }
+    {
+        self.exchange.config()
     }
 
     /// The sections that were agreed on last, in the order of the texts: what each is called, which way media flows,
@@ -170,21 +180,36 @@ impl End {
         values: &ExtensionValues,
     ) -> Result<Vec<Datagram>, SampleError>
         requires { is_sender_at self.old stream ≡ true }
-        ensures sent { IfOk result (λ ds. ds.items
-            ≡ sent_datagrams (sender_at self.old stream) time values.now bytes.now) }
-        ensures accepted { OnOk result (refusal_of_sample (sender_at self.old stream) time values.now bytes.now
-            ≡ None) }
-        ensures after { OnOk result (self.new ≡ with_sender self.old stream
-            (after_sample (sender_at self.old stream) time values.now bytes.now)) }
-        ensures refused { IfErr result (λ e. e ≢ SampleError.Memory
-            → refusal_of_sample (sender_at self.old stream) time values.now bytes.now ≡ Some e) }
-        ensures unchanged { IfErr result (λ e. e ≢ SampleError.Memory → self.new ≡ self.old) }
-        ensures failed { IfErr result (λ e. e ≡ SampleError.Memory
-            → HasFailed (sender_at self.old stream) (sender_at self.new stream)) }
-        ensures others { self.new ≡ with_sender self.old stream (sender_at self.new stream) }
+        ensures sends { SendsBy (send_step_at self.old stream time values.now bytes.now) self.new (returned result) }
     {
         let streams = &mut self.streams;
         streams.push_sample(stream, time, bytes, values)
+    }
+
+    /// The datagrams of a sample, as [`End::push_sample`] gives them, in place of what a list has. A caller that hands
+    /// the same list over each time has its memory used again, and that of its last datagram for a sample that is one
+    /// payload, without redundancy, as of audio: such samples then ask for no memory.
+    ///
+    /// # Conditions
+    /// The number is that of a sending stream: [`End::is_sender`].
+    ///
+    /// # Errors
+    /// Those of [`End::push_sample`]; the list is then empty.
+    pub fn push_sample_into(
+        &mut self,
+        stream: usize,
+        time: MediaTime,
+        bytes: &[u8],
+        values: &ExtensionValues,
+        datagrams: &mut Vec<Datagram>,
+    ) -> Result<(), SampleError>
+        requires { is_sender_at self.old stream ≡ true }
+        ensures sends { SendsBy (send_step_at self.old stream time values.now bytes.now) self.new
+            (left_in datagrams.new.items result) }
+        ensures empty { OnErr result (datagrams.new.items ≡ []) }
+    {
+        let streams = &mut self.streams;
+        streams.push_sample_into(stream, time, bytes, values, datagrams)
     }
 
     /// The repair of a datagram that a sending stream sent (RFC 4588 4): the datagram under the SSRC, the type and the

@@ -134,6 +134,13 @@ impl Exchange {
         })
     }
 
+    /// The rows of the end, in order of preference, as the exchanges so far left them.
+    pub fn config(&self) -> &CodecConfig
+        ensures { result.now ≡ self.now.config }
+    {
+        &self.config
+    }
+
     /// Whether an offer was pending, which is now given up; all else stays.
     pub fn withdraw(&mut self) -> bool
         ensures was { result ≡ is_some self.old.pending }

@@ -4,6 +4,8 @@ pub mod Hops
 pub mod OneRepair
 pub mod OpusForwarded
 pub mod PublishedUnits
+pub mod Rooms
 pub mod Steps
 pub mod TwoDatagrams
 pub mod Virtual
+pub mod Vp8Forwarded

@@ -3,5 +3,7 @@ pub mod ForwardedRuns
 pub mod Hops
 pub mod OpusForwarded
 pub mod Published
+pub mod Rooms
 pub mod Steps
 pub mod Virtual
+pub mod Vp8Forwarded

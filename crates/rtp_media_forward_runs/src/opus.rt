@@ -14,9 +14,9 @@ ghost use Rattle.rtp_media_forward.specs.Forwarding.{nothing_from};
 ghost use Rattle.rtp_media_forward.specs.Relayed.{AreFrom};
 ghost use Rattle.rtp_media_forward.specs.Steps.{IsRun};
 ghost use Rattle.rtp_media_forward_runs.specs.ForwardedRuns.{HearsRelay};
-ghost use Rattle.rtp_media_forward_runs.specs.OpusForwarded.{IsOpusRoom, Room, one_out, one_repair, other_out, parts_in};
-ghost use Rattle.rtp_media_forward_runs.specs.OpusForwarded.{relay_in, senders_in, steps_in, stream_in, time_over};
-ghost use Rattle.rtp_media_forward_runs.specs.OpusForwarded.{units_in, values_from};
+ghost use Rattle.rtp_media_forward_runs.specs.OpusForwarded.{IsOpusRoom, opus_form};
+ghost use Rattle.rtp_media_forward_runs.specs.Rooms.{Room, one_out, one_repair, other_out, parts_in, relay_in};
+ghost use Rattle.rtp_media_forward_runs.specs.Rooms.{senders_in, steps_in, stream_in, time_over, units_in, values_from};
 ghost use Rattle.rtp_media_forward_runs.specs.Steps.{datagrams_in};
 
 use crate::over_steps::steps_over_hops_law;
@@ -39,7 +39,7 @@ pub fn opus_over_forwarder()
         let s = stream_in r in
         let left = datagrams_in s r.own (senders_in r) (nothing_from 0) (steps_in r) in
         ((relay_in r).datagrams ≡ left)
-        × (left ≡ datagram_of s 0 (one_out r) ∷ datagram_of s 1 (other_out r) ∷ []) }
+        × (left ≡ datagram_of s 0 (one_out opus_form r) ∷ datagram_of s 1 (other_out opus_form r) ∷ []) }
     ensures hears { (r : Room) → IsOpusRoom r →
         let h = r.onward in
         HearsRelay (after_open_receiver h.receiver h.mid h.ssrc h.pt h.holding) (length h.receiver.streams) h.holding

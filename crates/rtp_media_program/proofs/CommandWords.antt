@@ -6,7 +6,7 @@ use Rattle.std.specs.Str.{bytes_eq}
 use Rattle.rtp_media_program.specs.declared.command.Command.{Command}
 use Rattle.rtp_media_program.specs.declared.command.Command.TheVariants.{Fixed, Send, Open, Sample, Receive, Poll, Row}
 use Rattle.rtp_media_program.specs.declared.command.Command.TheVariants.{Ext, End, Offer, Answer, Accept, Withdraw}
-use Rattle.rtp_media_program.specs.declared.command.Command.TheVariants.{Connect, Queue, Play, Repair}
+use Rattle.rtp_media_program.specs.declared.command.Command.TheVariants.{Connect, Queue, Play, Relay, Repair}
 use Rattle.rtp_media_program.specs.declared.command.Command.TheVariants.{AskStream, BoundStream}
 use Rattle.rtp_media_program.specs.declared.command.Ask.{Ask}
 use Rattle.rtp_media_program.specs.declared.command.Ask.TheVariants.{Close, Missing, Next}
@@ -23,6 +23,7 @@ use Rattle.rtp_media_program.proofs.ReadSteps.{dispatch, same, ended_some, read_
 use Rattle.rtp_media_program.proofs.ExchangeWords.{exchange_says, read_row, read_ext, read_end, read_offer, read_answer}
 use Rattle.rtp_media_program.proofs.ExchangeWords.{read_accept, read_withdraw, read_connect}
 use Rattle.rtp_media_program.proofs.PlayWords.{read_play, read_queue}
+use Rattle.rtp_media_program.proofs.RelayWords.{read_relay}
 use Rattle.rtp_media_program.specs.Says.{Says, AreSendWords, AreOpenWords, AreSampleWords, mid_words, AreReceiveWords}
 use Rattle.rtp_media_program.specs.Says.{AreAskWords, AreBoundWords, ArePollWords, AreRepairWords, ask_word, bound_word, held_number}
 
@@ -379,3 +380,4 @@ read_what_is_said words (Connect connect) a =
     subst (Reads (Connect connect)) (sym a.words_are) (read_connect words connect a)
 read_what_is_said words (Queue queue) a = subst (Reads (Queue queue)) (sym a.words_are) (read_queue words queue a)
 read_what_is_said words (Play play) a = subst (Reads (Play play)) (sym a.words_are) (read_play words play a)
+read_what_is_said words (Relay relay) a = read_relay words relay a

@@ -10,6 +10,8 @@ pub mod PlayWords
 mod Printed
 pub mod ReadBack
 pub mod ReadSteps
+pub mod Relayed
+pub mod RelayWords
 pub mod Sends
 pub mod Sent
 pub mod Splits

@@ -7,6 +7,7 @@ use Rattle.rtp_media_program.specs.Words.{hex_of, number_below}
 use Rattle.rtp_media_program.specs.PlayLines.{items_of, play_of, queue_of}
 use Rattle.rtp_media_program.specs.LineForms.{run_command_of}
 use Rattle.rtp_media_program.specs.Says.{ArePlayWords, AreQueueWords, Says}
+use Rattle.rtp_media_program.proofs.RelayWords.{relay_says}
 use Rattle.rtp_media_program.proofs.ReadSteps.{bind_some, dispatch, ended_some, glue, read_on, same, under}
 
 some_is : {A : Type 0} {x y : A} → Some x ≡ Some y → x ≡ y
@@ -49,7 +50,7 @@ pub run_says : (verb : List ℕ) (words : List (List ℕ)) (c : Command) → run
 run_says verb words c h =
     dispatch (bytes_eq verb (codes "queue")) _ _ _ _ (λ v. queue_says verb words c (same verb _ v))
     (dispatch (bytes_eq verb (codes "play")) _ _ _ _ (λ v. play_says verb words c (same verb _ v))
-    (λ none. cc none)) h
+    (relay_says verb words c)) h
 
 pub read_queue : (words : List (List ℕ)) (queue : _) (a : AreQueueWords words queue)
     → queue_of (a.time ∷ a.bytes ∷ []) ≡ Some (Queue queue)

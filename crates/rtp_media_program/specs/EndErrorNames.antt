@@ -8,6 +8,10 @@ use Rattle.rtp_media_streams.specs.declared.errors.SampleError.{SampleError}
 use Rattle.rtp_media_streams.specs.declared.errors.SampleError.TheVariants as sample_error
 use Rattle.rtp_media_streams.specs.declared.errors.RepairError.{RepairError}
 use Rattle.rtp_media_streams.specs.declared.errors.RepairError.TheVariants as repair_error
+use Rattle.rtp_media_streams.specs.declared.errors.ForwardError.{ForwardError}
+use Rattle.rtp_media_streams.specs.declared.errors.ForwardError.TheVariants as forward_error
+use Rattle.rtp_media_forward.specs.declared.forwarder.ReserveError.{ReserveError}
+use Rattle.rtp_media_forward.specs.declared.forwarder.ReserveError.TheVariants as reserve_error
 use Rattle.rtp_media_streams.specs.declared.errors.PollFault.{PollFault}
 use Rattle.rtp_media_streams.specs.declared.errors.PollFault.TheVariants as poll_fault
 use Rattle.rtp_media_program.specs.Replies.{memory}
@@ -39,6 +43,17 @@ repair_error_name repair_error.NoRepair = codes "NoRepair"
 repair_error_name repair_error.NotOwn = codes "NotOwn"
 repair_error_name repair_error.LimitTooSmall = codes "LimitTooSmall"
 repair_error_name repair_error.Memory = memory
+
+abbrev pub forward_error_name : ForwardError → List ℕ
+forward_error_name forward_error.AddsRedundancy = codes "AddsRedundancy"
+forward_error_name forward_error.NumberTooLarge = codes "NumberTooLarge"
+forward_error_name forward_error.NoPayload = codes "NoPayload"
+forward_error_name forward_error.LimitTooSmall = codes "LimitTooSmall"
+forward_error_name forward_error.Memory = memory
+
+abbrev pub reserve_error_name : ReserveError → List ℕ
+reserve_error_name reserve_error.NumberTooLarge = codes "NumberTooLarge"
+reserve_error_name reserve_error.Memory = memory
 
 abbrev pub fault_name : PollFault → List ℕ
 fault_name (poll_fault.Payload error) = codes "Payload"

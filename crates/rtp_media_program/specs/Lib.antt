@@ -14,6 +14,9 @@ pub mod PlayLines
 pub mod Playing
 pub mod ProgramState
 pub mod Progress
+pub mod Relaying
+pub mod RelayLines
+pub mod RelayWords
 pub mod Replies
 pub mod ReplyLines
 pub mod Runs

@@ -15,6 +15,7 @@ use Rattle.rtp_media_program.specs.declared.words.Letter.{Letter}
 use Rattle.rtp_media_program.specs.ExchangeLines.{row_of, ext_of, end_of, offer_of, answer_of, accept_of, withdraw_of}
 use Rattle.rtp_media_program.specs.ExchangeLines.{connect_of}
 use Rattle.rtp_media_program.specs.PlayLines.{play_of, queue_of}
+use Rattle.rtp_media_program.specs.RelayLines.{relay_command_of}
 use Rattle.rtp_media_program.specs.Words.{words_of, letter_of, text_of, hex_of, dash_or, numbers_of, number_below}
 use Rattle.rtp_media_program.specs.Words.{held_value, mid_value, first, ended, ◌>>=◌}
 
@@ -120,12 +121,12 @@ bound_of bound words = do
   number ← first (number_below (2 ^ 64)) stream.1
   ended number.1 (BoundStream (record { letter = letter.0; stream = stream.0; number = number.0; bound = bound }))
 
--- A command of whole runs, by its first word.
+-- A command of whole runs, or of forwarders, by its first word.
 abbrev pub run_command_of : List ℕ → List (List ℕ) → Option Command
 run_command_of verb words =
     if bytes_eq verb (codes "queue") then queue_of words
     else if bytes_eq verb (codes "play") then play_of words
-    else None
+    else relay_command_of verb words
 
 -- A command that makes an end or exchanges texts, or one of whole runs, by its first word.
 abbrev pub exchange_command_of : List ℕ → List (List ℕ) → Option Command

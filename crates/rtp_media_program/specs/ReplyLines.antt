@@ -5,7 +5,7 @@ use Rattle.rtp_media_program.specs.declared.reply.Reply.{Reply}
 use Rattle.rtp_media_program.specs.declared.reply.Reply.TheVariants.{Done, ErrorLine, Refused, Sender, Receiver}
 use Rattle.rtp_media_program.specs.declared.reply.Reply.TheVariants.{Datagram, Unreadable, Foreign, Damaged, NotTaken}
 use Rattle.rtp_media_program.specs.declared.reply.Reply.TheVariants.{Taken, NextUnit, NoUnit, Fault, Text, NoOffer}
-use Rattle.rtp_media_program.specs.declared.reply.Reply.TheVariants.{Missing, Next}
+use Rattle.rtp_media_program.specs.declared.reply.Reply.TheVariants.{Came, Forwarder, Missing, Next, NotSent}
 
 -- Words separated by single blanks, and a line feed.
 abbrev pub text_line : List (List ℕ) → List ℕ
@@ -33,6 +33,9 @@ reply_words NotTaken = codes "refused" ∷ []
 reply_words (Taken stream number) = codes "taken" ∷ decimal stream ∷ decimal number ∷ []
 reply_words (NextUnit first last time unit) =
     codes "unit" ∷ decimal first ∷ decimal last ∷ decimal time ∷ hex_text unit ∷ []
+reply_words (Forwarder forwarder) = codes "forwarder" ∷ decimal forwarder ∷ []
+reply_words (Came stream number) = codes "came" ∷ decimal stream ∷ decimal number ∷ []
+reply_words NotSent = codes "unsent" ∷ []
 reply_words (Next number) = codes "next" ∷ decimal number ∷ []
 reply_words (Missing number) = codes "missing" ∷ decimal number ∷ []
 reply_words NoUnit = codes "none" ∷ []

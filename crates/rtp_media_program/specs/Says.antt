@@ -3,7 +3,7 @@ use Rattle.std.specs.Prelude.{◌≡◌, ℕ, ◌^◌, List, [], ◌∷◌, ◌+
 use Rattle.rtp_media_program.specs.declared.command.Command.{Command}
 use Rattle.rtp_media_program.specs.declared.command.Command.TheVariants.{Fixed, Send, Open, Sample, Receive, Poll, Row}
 use Rattle.rtp_media_program.specs.declared.command.Command.TheVariants.{Ext, End, Offer, Answer, Accept, Withdraw}
-use Rattle.rtp_media_program.specs.declared.command.Command.TheVariants.{Connect, Queue, Play, Repair}
+use Rattle.rtp_media_program.specs.declared.command.Command.TheVariants.{Connect, Queue, Play, Relay, Repair}
 use Rattle.rtp_media_program.specs.declared.command.SendCommand.{SendCommand}
 use Rattle.rtp_media_program.specs.declared.command.OpenCommand.{OpenCommand}
 use Rattle.rtp_media_program.specs.declared.command.SampleCommand.{SampleCommand}
@@ -27,6 +27,7 @@ use Rattle.rtp_media_program.specs.declared.exchange.ConnectCommand.{ConnectComm
 use Rattle.rtp_media_program.specs.declared.play_words.PlayCommand.{PlayCommand}
 use Rattle.rtp_media_program.specs.declared.play_words.QueueCommand.{QueueCommand}
 use Rattle.rtp_media_program.specs.PlayLines.{items_of}
+use Rattle.rtp_media_program.specs.RelayWords.{SaysRelay}
 use Rattle.rtp_media_program.specs.Sections.{sections_of}
 use Rattle.rtp_media_program.specs.Words.{letter_of, text_of, hex_of, dash_or, numbers_of, number_below}
 
@@ -260,3 +261,4 @@ Says words (Withdraw letter) = (e : List ℕ) × (words ≡ codes "withdraw" ∷
 Says words (Connect connect) = AreConnectWords words connect
 Says words (Queue queue) = AreQueueWords words queue
 Says words (Play play) = ArePlayWords words play
+Says words (Relay relay) = SaysRelay words relay

@@ -15,8 +15,8 @@ use std::alloc::{AllocError, Global};
 /// any other line is answered by `responder` first. Notes the replies.
 ///
 /// # Errors
-/// If memory runs out, or the line has more than 64 GiB. Of a line that was answered a front of the replies is noted
-/// then, perhaps none or all, and else nothing.
+/// If memory runs out. Of a line that was answered a front of the replies is noted then, perhaps none or all, and else
+/// nothing.
 pub fn answer_and_explain<A: Respond>(
     alloc: Global,
     responder: &mut A,
@@ -31,8 +31,6 @@ pub fn answer_and_explain<A: Respond>(
     let (replies, status) = if is_comment(line) {
         (Vec::new(alloc), Status::Success)
     } else {
-        // Bytes at hand are always read, and a list takes whatever is written while there is memory: what else could
-        // end it is a line of more than 64 GiB, at which the reads run out.
         answer_lines(alloc, line, responder).map_err(|_| AllocError)?
     };
     Ok((explain(alloc, known, number, line, &replies)?, status))

@@ -5,6 +5,7 @@ use crate::exchange::{
 };
 use crate::owned::{Bytes, Word};
 use crate::play_words::{PlayCommand, QueueCommand};
+use crate::relay_words::RelayCommand;
 use crate::words::Letter;
 
 /// `send E MID SSRC PT FIRST MTU LIMIT DISTANCES PICTUREID`: open a sending stream.
@@ -180,4 +181,6 @@ pub enum Command {
     Queue(QueueCommand),
     /// Send what was kept at `a`, and let a schedule happen at `b`.
     Play(PlayCommand),
+    /// Have a forwarder and an end send packets on.
+    Relay(RelayCommand),
 }

@@ -2,13 +2,14 @@
 
 ghost use Rattle.std.specs.Prelude.{◌≡◌};
 ghost use Rattle.rtp_media_program.specs.EndErrorNames.{end_error_name, fault_name, open_error_name, repair_error_name};
-ghost use Rattle.rtp_media_program.specs.EndErrorNames.{sample_error_name};
+ghost use Rattle.rtp_media_program.specs.EndErrorNames.{forward_error_name, reserve_error_name, sample_error_name};
 
 use crate::memory_name::memory;
 use crate::reply::ErrorName;
 use rtp_media_ends::OpenError;
 use rtp_media_exchange::EndError;
-use rtp_media_streams::{PollFault, RepairError, SampleError};
+use rtp_media_forward::ReserveError;
+use rtp_media_streams::{ForwardError, PollFault, RepairError, SampleError};
 
 /// The name of a refusal to make an end.
 pub(crate) fn end_error_name(error: EndError) -> ErrorName
@@ -59,6 +60,29 @@ pub(crate) fn repair_error_name(error: RepairError) -> ErrorName
         RepairError::NotOwn => ErrorName::new("NotOwn"),
         RepairError::LimitTooSmall => ErrorName::new("LimitTooSmall"),
         RepairError::Memory => memory(),
+    }
+}
+
+/// The name of a refusal to send a packet on.
+pub(crate) fn forward_error_name(error: ForwardError) -> ErrorName
+    ensures { result ≡ forward_error_name error }
+{
+    match error {
+        ForwardError::AddsRedundancy => ErrorName::new("AddsRedundancy"),
+        ForwardError::NumberTooLarge => ErrorName::new("NumberTooLarge"),
+        ForwardError::NoPayload => ErrorName::new("NoPayload"),
+        ForwardError::LimitTooSmall => ErrorName::new("LimitTooSmall"),
+        ForwardError::Memory => memory(),
+    }
+}
+
+/// The name of a refusal to reserve numbers.
+pub(crate) fn reserve_error_name(error: ReserveError) -> ErrorName
+    ensures { result ≡ reserve_error_name error }
+{
+    match error {
+        ReserveError::NumberTooLarge => ErrorName::new("NumberTooLarge"),
+        ReserveError::Memory => memory(),
     }
 }
 

@@ -30,6 +30,12 @@ keep E N NUMBER
 close E N
 queue TIME HEX
 play TX RX ITEM..
+forwarder FIRST
+switch R SOURCE NUMBER TIMESTAMP AT
+forward E N R HEX
+leave R NUMBER
+ends R NUMBER
+reserve R COUNT
 help
 # a comment
 ";
@@ -54,7 +60,7 @@ const UP_TO_64_BITS: &str = "a number of decimal digits, below 2^64";
 const BYTE_OR_NONE: &str = "a number up to 255, or `-` for none";
 
 /// The names of the forms that not all texts fit, each with what a word for it has to be, and that in words.
-const NAMES: [(&str, Shape, &str); 24] = [
+const NAMES: [(&str, Shape, &str); 29] = [
     ("E", Shape::Letter, "`a` or `b`"),
     ("SSRC", Shape::Number(0xffff_ffff), UP_TO_32_BITS),
     ("CLOCK", Shape::Number(0xffff_ffff), UP_TO_32_BITS),
@@ -99,6 +105,11 @@ const NAMES: [(&str, Shape, &str); 24] = [
     ("TIME", Shape::Number(u64::MAX), UP_TO_64_BITS),
     ("TX", Shape::Number(u64::MAX), UP_TO_64_BITS),
     ("RX", Shape::Number(u64::MAX), UP_TO_64_BITS),
+    ("R", Shape::Number(u64::MAX), UP_TO_64_BITS),
+    ("SOURCE", Shape::Number(u64::MAX), UP_TO_64_BITS),
+    ("TIMESTAMP", Shape::Number(0xffff_ffff), UP_TO_32_BITS),
+    ("AT", Shape::Number(0xffff_ffff), UP_TO_32_BITS),
+    ("COUNT", Shape::Number(u64::MAX), UP_TO_64_BITS),
 ];
 
 /// The kinds and directions that a section may have.

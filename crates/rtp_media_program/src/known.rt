@@ -146,10 +146,13 @@ impl KnownEnd {
     fn count_at_stream(&mut self, alloc: Global, line: &str, reply: &str) -> Result<(), AllocError>
         ensures { self.new ≡ self.old }
     {
-        let number = if word_at(reply, 0) == "taken" {
+        let word = word_at(reply, 0);
+        let number = if word == "taken" || word == "came" {
             number_at(reply, 1)
         } else if word_at(line, 0) == "receive" {
             self.receiver_of(source_in(alloc, word_at(line, 2)))
+        } else if word_at(line, 0) == "forward" && word != "datagram" {
+            self.receiver_of(source_in(alloc, word_at(line, 4)))
         } else {
             number_at(line, 2)
         };

@@ -20,6 +20,7 @@ use crate::fields::{
 use crate::misread::Misread;
 use crate::owned::Word;
 use crate::play_words::{play_of, queue_of};
+use crate::relay_words::relay_command_of;
 use crate::words::{Letter, WordsLeft};
 use std::alloc::{AllocError, Global};
 
@@ -111,7 +112,7 @@ fn run_command_of(alloc: Global, verb: &str, rest: WordsLeft<'_>) -> Result<Comm
     match verb {
         "queue" => queue_of(alloc, rest),
         "play" => play_of(alloc, rest),
-        _ => Err(Misread::NotUnderstood),
+        _ => relay_command_of(alloc, verb, rest),
     }
 }
 

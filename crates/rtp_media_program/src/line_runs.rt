@@ -1,6 +1,6 @@
 //! Runs of the program: lines in, replies out.
 
-ghost use Rattle.std.specs.Prelude.{◌≡◌, ◌≢◌, ℕ, List, [], ◌∷◌, IfErr, IfOk, IfSome, OnErr, Some};
+ghost use Rattle.std.specs.Prelude.{◌≡◌, ℕ, List, [], ◌∷◌, IfErr, IfOk, IfSome, OnErr, Some};
 ghost use Rattle.std.specs.List.{list_any};
 ghost use Rattle.std.specs.Option.{option_copied};
 ghost use Rattle.rtp_media_program.specs.Runs.{Answers, Printed, ReadsAll, status_of};
@@ -8,7 +8,7 @@ ghost use Rattle.rtp_media_program.specs.ReplyLines.{is_error_line};
 ghost use Rattle.rtp_media_program.specs.Input.{lines_of};
 ghost use Rattle.rtp_media_program.specs.Progress.{PrintedOne, GoesOn, Ends};
 ghost use Rattle.rtp_media_program.specs.Stops.{StoppedOne, StopsAtEnd, StopsIn, WritesFront};
-ghost use Rattle.rtp_media_program.specs.declared.status.RunFault.TheVariants.{Write};
+ghost use Rattle.rtp_media_program.specs.declared.status.RunFault.TheVariants.{Memory};
 
 use crate::line::Line;
 use crate::line_buffer::LineBuffer;
@@ -175,10 +175,26 @@ pub fn run_lines<R: Read, W: Write, A: Respond>(
     run_within(alloc, MAX_READS, reader, writer, responder)
 }
 
-/// Answers lines that are at hand by `responder`, as [`run_lines`] does; what it would write, and its status.
+/// Takes the whole input, which is at hand.
+fn take_all<W: Write, A: Respond>(
+    alloc: Global,
+    lines: &[u8],
+    responder: &mut A,
+    writer: &mut W,
+) -> Result<Status, RunFault>
+    ensures { IfOk result (λ status. Printed A.gives responder.old responder.new (W.contents writer.old)
+        (W.contents writer.new) lines.now status) }
+{
+    let mut line = LineBuffer::new(alloc);
+    let status = take_piece(alloc, lines, Status::Success, &mut line, responder, writer)?;
+    take_end(alloc, status, &line, responder, writer)
+}
+
+/// Answers lines that are at hand by `responder`, as [`run_lines`] does, however many they are; what it would write,
+/// and its status.
 ///
 /// # Errors
-/// If memory runs out, and where the lines don't end within [`MAX_READS`] reads of 4,096 bytes.
+/// If memory runs out.
 pub fn answer_lines<A: Respond>(
     alloc: Global,
     lines: &[u8],
@@ -186,15 +202,13 @@ pub fn answer_lines<A: Respond>(
 ) -> Result<(Vec<u8>, Status), RunFault>
     ensures answered { IfOk result (λ r. Printed A.gives responder.old responder.new (Some []) (Some r.0.items)
         lines.now r.1) }
-    ensures fault { IfErr result (λ e. e ≢ Write) }
+    ensures fault { IfErr result (λ e. e ≡ Memory) }
 {
-    let mut reader = lines;
     let mut replies = Vec::new(alloc);
-    match run_lines(alloc, &mut reader, &mut replies, responder) {
+    match take_all(alloc, lines, responder, &mut replies) {
         Ok(status) => Ok((replies, status)),
-        // A list takes whatever is written while there is memory.
-        Err(RunFault::Write) => Err(RunFault::Memory),
-        Err(fault) => Err(fault),
+        // There is no read, and a list takes whatever is written while there is memory.
+        Err(_) => Err(RunFault::Memory),
     }
 }
 

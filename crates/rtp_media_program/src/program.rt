@@ -8,7 +8,7 @@ ghost use Rattle.rtp_media_program.specs.declared.command.Command.{Command};
 ghost use Rattle.rtp_media_program.specs.Exchanging.{AtEnd, ConnectsEnds};
 ghost use Rattle.rtp_media_program.specs.Playing.{PlaysEnds};
 ghost use Rattle.rtp_media_program.specs.ProgramState.{AnswersAt, AnswersAtEnd, AnswersCommand};
-ghost use Rattle.rtp_media_program.specs.ProgramState.{KeepsDraft, initial_state, letter_of};
+ghost use Rattle.rtp_media_program.specs.ProgramState.{AnswersRelay, KeepsDraft, initial_state, letter_of};
 
 use crate::command::Command;
 use crate::draft::EndAndDraft;
@@ -18,6 +18,8 @@ use crate::line_runs::run_lines;
 use crate::making::{draft_ext, draft_row, make_end, make_fixed};
 use crate::play_words::{PlayCommand, QueueCommand};
 use crate::playing::{keep_sample, play_ends};
+use crate::relay_words::RelayCommand;
+use crate::relaying::{begin, forward, switch, tell};
 use crate::replies::one;
 use crate::reply::Reply;
 use crate::respond::Respond;
@@ -26,15 +28,18 @@ use crate::stream_calls::{ask, bound};
 use crate::streams::{open, poll, receive, repair, sample, send};
 use crate::words::Letter;
 use rtp_media_ends::End;
+use rtp_media_forward::Forwarder;
 use std::alloc::{AllocError, Global};
 use std::io::{Read, Write};
 use std::marker::Model;
 
-/// What the program answers its lines over: what the two letters stand for, and the samples that are kept for a run.
+/// What the program answers its lines over: what the two letters stand for, the samples that are kept for a run, and
+/// the forwarders.
 pub struct Program {
     a: EndAndDraft,
     b: EndAndDraft,
     queue: Vec<QueueCommand>,
+    forwarders: Vec<Forwarder>,
 }
 
 /// Written by hand, so that crates that drop this type need no proof about its fields.
@@ -44,6 +49,7 @@ impl Drop for Program {
             a: _a,
             b: _b,
             queue: _queue,
+            forwarders: _forwarders,
         } = self;
     }
 }
@@ -57,11 +63,11 @@ impl Model for Program {
 
     ghost coded = { Prim.hlevel (codes, window_code) };
 
-    ghost view = { λ p. record { a = p.a; b = p.b; queue = p.queue.items } };
+    ghost view = { λ p. record { a = p.a; b = p.b; queue = p.queue.items; forwarders = p.forwarders.items } };
 }
 
 impl Program {
-    /// No end is made, and no sample is kept.
+    /// No end is made, no sample is kept, and there is no forwarder.
     pub fn new(alloc: Global) -> Program
         ensures { result ≡ initial_state }
     {
@@ -69,6 +75,7 @@ impl Program {
             a: EndAndDraft::clear(alloc),
             b: EndAndDraft::clear(alloc),
             queue: Vec::new(alloc),
+            forwarders: Vec::new(alloc),
         }
     }
 }
@@ -86,6 +93,13 @@ impl Respond for Program {
             Command::Play(command) => {
                 play_both(alloc, &mut self.a, &mut self.b, &mut self.queue, command)
             }
+            Command::Relay(command) => relay(
+                alloc,
+                &mut self.a,
+                &mut self.b,
+                &mut self.forwarders,
+                command,
+            ),
             command => match command_letter(&command) {
                 Letter::A => answer(alloc, &mut self.a, command),
                 Letter::B => answer(alloc, &mut self.b, command),
@@ -124,6 +138,28 @@ fn play_both(
     play_ends(alloc, &mut a.end, &mut b.end, queue, command)
 }
 
+/// Answers a line of forwarders.
+fn relay(
+    alloc: Global,
+    a: &mut EndAndDraft,
+    b: &mut EndAndDraft,
+    forwarders: &mut Vec<Forwarder>,
+    command: RelayCommand,
+) -> Result<Vec<Reply>, AllocError>
+    ensures { IfOk result (λ replies. AnswersRelay a.old b.old forwarders.old.items command a.new b.new
+        forwarders.new.items replies.items) }
+{
+    match command {
+        RelayCommand::Begin(first) => begin(alloc, forwarders, first),
+        RelayCommand::Switch(command) => switch(alloc, forwarders, command),
+        RelayCommand::Mark(command) => tell(alloc, forwarders, command),
+        RelayCommand::Forward(command) => match command.letter {
+            Letter::A => forward(alloc, &mut a.end, forwarders, command),
+            Letter::B => forward(alloc, &mut b.end, forwarders, command),
+        },
+    }
+}
+
 /// The letter that a command names.
 fn command_letter(command: &Command) -> Letter
     ensures { result ≡ letter_of command.now }
@@ -148,6 +184,7 @@ fn command_letter(command: &Command) -> Letter
         Command::Connect(_) => Letter::A,
         Command::Queue(_) => Letter::A,
         Command::Play(_) => Letter::A,
+        Command::Relay(_) => Letter::A,
     }
 }
 

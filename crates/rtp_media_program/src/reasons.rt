@@ -124,6 +124,10 @@ fn unmet<'a>(known: &Known, line: &'a str) -> Option<Reason<'a>> {
         )),
         "send" => Some(unsound(line)),
         "open" => Some(Reason::words("HELD has to be 4096 to 16384")),
+        "switch" | "leave" | "ends" | "reserve" => Some(no_forwarder(letter)),
+        "forward" => unmet_streams(known, verb, letter, stream).or(Some(no_forwarder(word_at(
+            line, 3,
+        )))),
         _ => unmet_streams(known, verb, letter, stream),
     }
 }
@@ -131,7 +135,7 @@ fn unmet<'a>(known: &Known, line: &'a str) -> Option<Reason<'a>> {
 /// The missing end among those that a line needs.
 fn unmet_ends<'a>(known: &Known, verb: &str, letter: &'a str) -> Option<Reason<'a>> {
     match verb {
-        "row" | "ext" => None,
+        "row" | "ext" | "switch" | "leave" | "ends" | "reserve" => None,
         "connect" | "play" => unmade(known.end("a"), "a").or(unmade(known.end("b"), "b")),
         _ => unmade(known.end(letter), letter),
     }
@@ -151,12 +155,22 @@ fn unmet_streams<'a>(
             second,
             "b",
         )),
-        "sample" | "repair" | "next" | "skip" => unopened(known.end(first), true, second, first),
+        "sample" | "repair" | "next" | "skip" | "forward" => unopened(
+            known.end(first),
+            true,
+            second,
+            first,
+        ),
         "poll" | "missing" | "pass" | "empty" | "keep" => {
             unopened(known.end(first), false, second, first)
         }
         _ => None,
     }
+}
+
+/// A forwarder that isn't there.
+fn no_forwarder(number: &str) -> Reason<'_> {
+    Reason::around("no forwarder ", number, ": `forwarder FIRST` makes one")
 }
 
 /// An end that isn't there.

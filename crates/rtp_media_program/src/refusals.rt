@@ -6,7 +6,7 @@ ghost use Rattle.rtp_media_program.specs.ExplainedReplies.{says_no};
 use crate::reason::Reason;
 
 /// Why each of these refusals comes.
-const REFUSALS: [(&str, &str); 22] = [
+const REFUSALS: [(&str, &str); 25] = [
     (
         "refused RowNotPlain",
         "a row of the draft is of a kind that an end can't agree on",
@@ -71,7 +71,7 @@ const REFUSALS: [(&str, &str); 22] = [
     ),
     (
         "refused LimitTooSmall",
-        "MTU and a header with all values pass LIMIT, or a repair's two bytes more do",
+        "MTU and a header with all values pass LIMIT, or a packet that is sent on or a repair's two bytes more do",
     ),
     ("refused Payload", "the codec doesn't take these bytes"),
     (
@@ -82,6 +82,15 @@ const REFUSALS: [(&str, &str); 22] = [
         "refused NotOwn",
         "the datagram isn't one that the stream sent",
     ),
+    (
+        "refused AddsRedundancy",
+        "the stream sends redundancy, so it sends no packet on",
+    ),
+    (
+        "refused NumberTooLarge",
+        "the packet's number, or one that would be reserved, is too large",
+    ),
+    ("refused NoPayload", "the packet has no payload"),
     ("refused Memory", "memory runs out"),
 ];
 

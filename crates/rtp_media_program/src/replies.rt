@@ -1,6 +1,6 @@
 //! Replies.
 
-ghost use Rattle.std.specs.Prelude.{IfOk};
+ghost use Rattle.std.specs.Prelude.{◌≡◌, ◌∷◌, [], IfOk};
 ghost use Rattle.rtp_media_program.specs.Replies.{Prints};
 
 use crate::reply::Reply;
@@ -15,5 +15,15 @@ pub fn one(alloc: Global, reply: Reply) -> Result<Vec<Reply>, AllocError>
 {
     let mut replies = Vec::new(alloc);
     replies.push(reply)?;
+    Ok(replies)
+}
+
+/// Two replies.
+pub(crate) fn two(alloc: Global, first: Reply, second: Reply) -> Result<Vec<Reply>, AllocError>
+    ensures { IfOk result (λ replies. replies.items ≡ first ∷ second ∷ []) }
+{
+    let mut replies = Vec::new(alloc);
+    replies.push(first)?;
+    replies.push(second)?;
     Ok(replies)
 }

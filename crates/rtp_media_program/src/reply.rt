@@ -2,7 +2,7 @@
 
 ghost use Rattle.std.specs.Prelude.{◌≡◌, ◌++◌, IfOk, OnOk, OnErr, string_bytes, [], ◌∷◌, decimal};
 ghost use Rattle.std.specs.List.{flat_map};
-ghost use Rattle.rtp_media_program.specs.declared.reply.Reply.TheVariants.{Taken, NextUnit};
+ghost use Rattle.rtp_media_program.specs.declared.reply.Reply.TheVariants.{Came, Taken, NextUnit};
 ghost use Rattle.rtp_media_program.specs.ReplyLines.{reply_text, hex_text, is_error_line, text_line};
 
 use crate::owned::Bytes;
@@ -69,6 +69,17 @@ pub enum Reply {
         /// The widened sequence number.
         number: u64,
     },
+    /// `forwarder R`: the number of a new forwarder.
+    Forwarder(usize),
+    /// `came N NUMBER`: a packet of this widened number came to a receiving stream, to be sent on.
+    Came {
+        /// The number of the receiving stream.
+        stream: usize,
+        /// The widened sequence number.
+        number: u64,
+    },
+    /// `unsent`: the packet isn't one that is sent on.
+    NotSent,
     /// `next NUMBER`: the number that a sending stream's next datagram gets.
     Next(u64),
     /// `missing NUMBER`: a number that a receiving stream misses.
@@ -114,6 +125,9 @@ impl Reply {
             Reply::Damaged => String::from_str(alloc, "damaged\n"),
             Reply::NotTaken => String::from_str(alloc, "refused\n"),
             Reply::Taken { stream, number } => taken(alloc, *stream, *number),
+            Reply::Forwarder(forwarder) => numbered(alloc, "forwarder", *forwarder),
+            Reply::Came { stream, number } => came(alloc, *stream, *number),
+            Reply::NotSent => String::from_str(alloc, "unsent\n"),
             Reply::Next(number) => counted(alloc, "next", *number),
             Reply::Missing(number) => counted(alloc, "missing", *number),
             Reply::NextUnit {
@@ -182,6 +196,13 @@ fn taken(alloc: Global, stream: usize, number: u64) -> Result<String, AllocError
     ensures { IfOk result (λ text. string_bytes text ≡ reply_text (Taken stream number)) }
 {
     format!(in alloc; "taken {stream} {number}\n")
+}
+
+/// What is printed of a packet that came to be sent on.
+fn came(alloc: Global, stream: usize, number: u64) -> Result<String, AllocError>
+    ensures { IfOk result (λ text. string_bytes text ≡ reply_text (Came stream number)) }
+{
+    format!(in alloc; "came {stream} {number}\n")
 }
 
 /// What is printed of a unit: of these numbers of its first and last packet, this time, and these bytes.

@@ -102,6 +102,7 @@ impl Stream {
                     self.is_waiting_known = self.waiting.len() as u64 <= self.held;
                 }
             }
+            "came" => self.taken = self.taken.saturating_add(1),
             "refused" if reply == "refused" => self.refused = self.refused.saturating_add(1),
             "damaged" => self.damaged = self.damaged.saturating_add(1),
             "unit" => {

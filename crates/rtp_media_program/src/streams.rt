@@ -126,7 +126,7 @@ fn values_given(mid: &Option<Word>) -> ExtensionValues
 }
 
 /// The line for a datagram.
-fn datagram_reply(datagram: Datagram) -> Reply
+pub(crate) fn datagram_reply(datagram: Datagram) -> Reply
     ensures { result ≡ Reply.Datagram datagram }
 {
     Reply::Datagram(Bytes::from_vec(datagram.into_vec()))

@@ -172,7 +172,7 @@ impl AgreedSection {
     pub fn is_named(&self, mid: Mid) -> bool
         ensures { result ≡ bytes_eq self.now.mid mid }
     {
-        self.mid.as_str() == mid.as_str()
+        self.mid.as_bytes() == mid.as_bytes()
     }
 
     /// The first row of this type.

@@ -26,7 +26,7 @@ impl SectionSpec {
     fn has_shape(&self, mid: Mid, kind: MediaKind) -> bool
         ensures { result ≡ has_shape mid kind self.now }
     {
-        mid.as_str() == self.mid.as_str() && same_kind(kind, self.kind)
+        mid.as_bytes() == self.mid.as_bytes() && same_kind(kind, self.kind)
     }
 }
 

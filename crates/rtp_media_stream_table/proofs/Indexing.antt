@@ -15,12 +15,14 @@ use Rattle.rtp_media_streams.specs.Types.{is_key_of}
 use Rattle.rtp_media_streams.specs.declared.types.RepairKey.{RepairKey}
 use Rattle.rtp_media_streams.specs.declared.types.PayloadTypes.{PayloadTypes}
 use Rattle.rtp_media_stream_table.specs.Arrivals.{takes}
+use Rattle.rtp_media_stream_table.specs.declared.open_stream.Direction.{Direction}
+use Rattle.rtp_media_stream_table.specs.declared.open_stream.Direction.TheVariants.{Receives, Sends}
 use Rattle.rtp_media_stream_table.specs.declared.open_stream.OpenStream.{OpenStream}
 use Rattle.rtp_media_stream_table.specs.declared.open_stream.OpenStream.TheVariants.{Closed, Sender, Receiver}
 use Rattle.rtp_media_stream_table.specs.declared.stream_index.StreamIndex.{StreamIndex}
 use Rattle.rtp_media_stream_table.specs.Streams.{no_receiver, nth_stream, receives_as, receiving_of, sends_as}
 use Rattle.rtp_media_stream_table.specs.Polled.{AnswersAll, AnswersSome, ArePolledOut, ArePolledSome}
-use Rattle.rtp_media_stream_table.specs.Indexed.{AreIndexed, IsIndexed, has_red, has_repair, sends}
+use Rattle.rtp_media_stream_table.specs.Indexed.{AreIndexed, IsIndexed, conflicts, has_key, has_red, has_repair, sends}
 use Rattle.rtp_media_stream_table.specs.StreamIndex.{number_at}
 use Rattle.rtp_media_stream_table.proofs.Looked.{any-either, any-is, looked-up, tested}
 use Rattle.rtp_media_stream_table.proofs.NewReceiver.{not-taken, shares}
@@ -68,60 +70,46 @@ pub none-repair : (has : ℕ → ℕ → OpenStream → Bool) (ss : List OpenStr
 none-repair has [] = refl
 none-repair has (x ∷ xs) = none-repair has xs
 
-takes-either : (ssrc pt : ℕ) (red : Option ℕ) (repair : Option RepairKey) (x : OpenStream)
-    → receives_as ssrc (record { pt = pt; red = red; repair = repair }) x
-    ≡ (takes ssrc pt x || (has_red takes ssrc red x || has_repair takes repair x))
-takes-either ssrc pt None None (Sender s) = refl
-takes-either ssrc pt None (Some key) (Sender s) = refl
-takes-either ssrc pt (Some red) None (Sender s) = refl
-takes-either ssrc pt (Some red) (Some key) (Sender s) = refl
-takes-either ssrc pt None None Closed = refl
-takes-either ssrc pt None (Some key) Closed = refl
-takes-either ssrc pt (Some red) None Closed = refl
-takes-either ssrc pt (Some red) (Some key) Closed = refl
-takes-either ssrc pt None None (Receiver r) = refl
-takes-either ssrc pt None (Some key) (Receiver r) = refl
-takes-either ssrc pt (Some red) None (Receiver r) = refl
-takes-either ssrc pt (Some red) (Some key) (Receiver r) = refl
+is-either : (d : Direction) (ssrc pt : ℕ) (red : Option ℕ) (repair : Option RepairKey) (x : OpenStream)
+    → conflicts d ssrc (record { pt = pt; red = red; repair = repair }) x
+    ≡ (has_key d ssrc pt x || (has_red (has_key d) ssrc red x || has_repair (has_key d) repair x))
+is-either Sends ssrc pt None None (Sender s) = refl
+is-either Sends ssrc pt None (Some key) (Sender s) = refl
+is-either Sends ssrc pt (Some red) None (Sender s) = refl
+is-either Sends ssrc pt (Some red) (Some key) (Sender s) = refl
+is-either Sends ssrc pt None None (Receiver r) = refl
+is-either Sends ssrc pt None (Some key) (Receiver r) = refl
+is-either Sends ssrc pt (Some red) None (Receiver r) = refl
+is-either Sends ssrc pt (Some red) (Some key) (Receiver r) = refl
+is-either Sends ssrc pt None None Closed = refl
+is-either Sends ssrc pt None (Some key) Closed = refl
+is-either Sends ssrc pt (Some red) None Closed = refl
+is-either Sends ssrc pt (Some red) (Some key) Closed = refl
+is-either Receives ssrc pt None None (Sender s) = refl
+is-either Receives ssrc pt None (Some key) (Sender s) = refl
+is-either Receives ssrc pt (Some red) None (Sender s) = refl
+is-either Receives ssrc pt (Some red) (Some key) (Sender s) = refl
+is-either Receives ssrc pt None None (Receiver r) = refl
+is-either Receives ssrc pt None (Some key) (Receiver r) = refl
+is-either Receives ssrc pt (Some red) None (Receiver r) = refl
+is-either Receives ssrc pt (Some red) (Some key) (Receiver r) = refl
+is-either Receives ssrc pt None None Closed = refl
+is-either Receives ssrc pt None (Some key) Closed = refl
+is-either Receives ssrc pt (Some red) None Closed = refl
+is-either Receives ssrc pt (Some red) (Some key) Closed = refl
 
-sends-either : (ssrc pt : ℕ) (red : Option ℕ) (repair : Option RepairKey) (x : OpenStream)
-    → sends_as ssrc (record { pt = pt; red = red; repair = repair }) x
-    ≡ (sends ssrc pt x || (has_red sends ssrc red x || has_repair sends repair x))
-sends-either ssrc pt None None Closed = refl
-sends-either ssrc pt None (Some key) Closed = refl
-sends-either ssrc pt (Some red) None Closed = refl
-sends-either ssrc pt (Some red) (Some key) Closed = refl
-sends-either ssrc pt None None (Receiver r) = refl
-sends-either ssrc pt None (Some key) (Receiver r) = refl
-sends-either ssrc pt (Some red) None (Receiver r) = refl
-sends-either ssrc pt (Some red) (Some key) (Receiver r) = refl
-sends-either ssrc pt None None (Sender s) = refl
-sends-either ssrc pt None (Some key) (Sender s) = refl
-sends-either ssrc pt (Some red) None (Sender s) = refl
-sends-either ssrc pt (Some red) (Some key) (Sender s) = refl
-
--- A stream could take the datagrams of one of these keys if it takes those of one of them.
-pub could-take : (ssrc : ℕ) (types : PayloadTypes) (ss : List OpenStream) (a b c : Bool)
-    → a ≡ list_any (takes ssrc types.pt) ss → b ≡ list_any (has_red takes ssrc types.red) ss
-    → c ≡ list_any (has_repair takes types.repair) ss
-    → (a || (b || c)) ≡ list_any (receives_as ssrc types) ss
-could-take ssrc types ss a b c h k m =
+-- A stream could have the datagrams of one of these keys if it has one of them.
+pub could-be : (d : Direction) (ssrc : ℕ) (types : PayloadTypes) (ss : List OpenStream) (a b c : Bool)
+    → a ≡ list_any (has_key d ssrc types.pt) ss → b ≡ list_any (has_red (has_key d) ssrc types.red) ss
+    → c ≡ list_any (has_repair (has_key d) types.repair) ss
+    → (a || (b || c)) ≡ list_any (conflicts d ssrc types) ss
+could-be d ssrc types ss a b c h k m =
     ap₂ (λ (x y : Bool). x || y) h (ap₂ (λ (x y : Bool). x || y) k m
-    ∙ sym (any-either (has_red takes ssrc types.red) (has_repair takes types.repair)
-    (λ x. has_red takes ssrc types.red x || has_repair takes types.repair x) (λ x. refl) ss))
-    ∙ sym (any-either (takes ssrc types.pt) (λ x. has_red takes ssrc types.red x || has_repair takes types.repair x)
-    (receives_as ssrc types) (takes-either ssrc types.pt types.red types.repair) ss)
-
-pub could-be-sent : (ssrc : ℕ) (types : PayloadTypes) (ss : List OpenStream) (a b c : Bool)
-    → a ≡ list_any (sends ssrc types.pt) ss → b ≡ list_any (has_red sends ssrc types.red) ss
-    → c ≡ list_any (has_repair sends types.repair) ss
-    → (a || (b || c)) ≡ list_any (sends_as ssrc types) ss
-could-be-sent ssrc types ss a b c h k m =
-    ap₂ (λ (x y : Bool). x || y) h (ap₂ (λ (x y : Bool). x || y) k m
-    ∙ sym (any-either (has_red sends ssrc types.red) (has_repair sends types.repair)
-    (λ x. has_red sends ssrc types.red x || has_repair sends types.repair x) (λ x. refl) ss))
-    ∙ sym (any-either (sends ssrc types.pt) (λ x. has_red sends ssrc types.red x || has_repair sends types.repair x)
-    (sends_as ssrc types) (sends-either ssrc types.pt types.red types.repair) ss)
+    ∙ sym (any-either (has_red (has_key d) ssrc types.red) (has_repair (has_key d) types.repair)
+    (λ x. has_red (has_key d) ssrc types.red x || has_repair (has_key d) types.repair x) (λ x. refl) ss))
+    ∙ sym (any-either (has_key d ssrc types.pt)
+    (λ x. has_red (has_key d) ssrc types.red x || has_repair (has_key d) types.repair x)
+    (conflicts d ssrc types) (is-either d ssrc types.pt types.red types.repair) ss)
 
 -- ---- kept
 

@@ -4,4 +4,5 @@ pub mod KeptOrSet
 pub mod Looked
 pub mod NewReceiver
 pub mod PolledSome
+pub mod SentAt
 pub mod StreamKeys

@@ -1,8 +1,6 @@
 use Rattle.std.specs.Prelude.{ℕ, ◌≡◌, ◌<◌, List, [], length}
 use Rattle.std.specs.Prelude.{slice_index_or}
 use Rattle.rtp_media_streams.specs.Polls.{Answers, IsPolled, IsPolledSome, poll_step}
-use Rattle.rtp_media_streams.specs.Rows.{format_of}
-use Rattle.rtp_media_streams.specs.Receiving.{Receiving, with_stream}
 use Rattle.rtp_media_stream_table.specs.Streams.{nth_stream, receiving_of}
 use Rattle.rtp_media_stream_table.specs.declared.open_stream.OpenStream.{OpenStream}
 use Rattle.rtp_media_stream_table.specs.declared.open_stream.OpenStream.TheVariants.{Closed, Sender, Receiver}

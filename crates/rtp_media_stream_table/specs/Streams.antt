@@ -3,6 +3,9 @@ use Rattle.std.specs.Prelude.{◌≡◌, None, slice_set, slice_index_or}
 use Rattle.rtp_wire.specs.Maps.{empty_map}
 use Rattle.media_types.specs.declared.codec.Codec.TheVariants.{Unknown}
 use Rattle.payload_core_buffer.specs.Buffered.{holding_of}
+use Rattle.rtp_wire.specs.Time.{Time}
+use Rattle.rtp_wire.specs.declared.values.ExtensionValues.{ExtensionValues}
+use Rattle.rtp_media_streams.specs.SendSteps.{SendStep, send_step}
 use Rattle.rtp_media_streams.specs.Sending as sending
 use Rattle.rtp_media_streams.specs.Sending.{Sending, opened_sender}
 use Rattle.rtp_media_streams.specs.Receiving as receiving
@@ -73,6 +76,17 @@ nth_receiver streams n = receiving_of (nth_stream streams n)
 abbrev pub AtNth : List OpenStream → ℕ → (Receiving → Receiving → Type 0) → List OpenStream → Type 0
 AtNth streams n Did after = Did (nth_receiver streams n) (nth_receiver after n)
     × (after ≡ set_receiver streams n (nth_receiver after n))
+
+-- A sample pushed at the n-th stream; the others don't change.
+abbrev pub nth_send_step : List OpenStream → ℕ → Time → ExtensionValues → List ℕ → SendStep (List OpenStream)
+nth_send_step streams n time values bytes =
+    let step = send_step (nth_sender streams n) time values bytes in record {
+      before = streams;
+      refusal = step.refusal;
+      datagrams = step.datagrams;
+      next = set_sender streams n step.next;
+      Stopped = λ after. step.Stopped (nth_sender after n) × (after ≡ set_sender streams n (nth_sender after n));
+    }
 
 -- Whether the n-th of these streams is one that sends, and whether it is one that receives.
 abbrev pub is_nth_sender : List OpenStream → ℕ → Bool

@@ -9,8 +9,8 @@ mod stream_index;
 mod stream_table;
 
 pub use errors::ReceiveError;
-pub use finding::{could_receive, could_send, stream_for};
-pub use open_stream::OpenStream;
+pub use finding::{conflicts, stream_for};
+pub use open_stream::{Direction, OpenStream};
 pub use received::Received;
 pub use stream_index::StreamIndex;
 pub use stream_table::{Polls, StreamTable};

@@ -3,10 +3,19 @@
 ghost use Rattle.std.specs.Prelude.{◌≡◌};
 ghost use Rattle.rtp_media_stream_table.specs.Arrivals.{takes};
 ghost use Rattle.rtp_media_stream_table.specs.Streams.{is_receiving, is_sending};
-ghost use Rattle.rtp_media_stream_table.specs.Indexed.{sends};
+ghost use Rattle.rtp_media_stream_table.specs.Indexed.{has_key, sends};
 
 use rtp_media_streams::{ReceivingStream, SendingStream};
 use rtp_wire::{Pt, Ssrc};
+
+/// Which streams are looked for.
+#[derive(Clone, Copy, Drop)]
+pub enum Direction {
+    /// Those that send.
+    Sends,
+    /// Those that receive.
+    Receives,
+}
 
 /// A stream of an end.
 #[derive(Drop)]
@@ -40,8 +49,18 @@ impl OpenStream {
         }
     }
 
+    /// Whether it has this direction and this key: an SSRC and a payload type that its datagrams may have.
+    pub fn has_key(&self, direction: Direction, ssrc: Ssrc, pt: Pt) -> bool
+        ensures { result ≡ has_key direction ssrc pt self.now }
+    {
+        match direction {
+            Direction::Sends => self.sends(ssrc, pt),
+            Direction::Receives => self.takes(ssrc, pt),
+        }
+    }
+
     /// Whether it could send datagrams of this SSRC and payload type.
-    pub fn sends(&self, ssrc: Ssrc, pt: Pt) -> bool
+    fn sends(&self, ssrc: Ssrc, pt: Pt) -> bool
         ensures { result ≡ sends ssrc pt self.now }
     {
         match self {
@@ -51,7 +70,7 @@ impl OpenStream {
     }
 
     /// Whether datagrams of this SSRC and payload type are its own.
-    pub fn takes(&self, ssrc: Ssrc, pt: Pt) -> bool
+    fn takes(&self, ssrc: Ssrc, pt: Pt) -> bool
         ensures { result ≡ takes ssrc pt self.now }
     {
         match self {

@@ -4,9 +4,6 @@ use Rattle.payload_core_base.specs.Packing.{Sender}
 use Rattle.media_types.specs.declared.codec.Codec.{Codec}
 use Rattle.media_types.specs.declared.codec.Codec.TheVariants as codecs
 use Rattle.h26x_payload.specs.Codings.{Forms, Settings, coding_in, coding_of}
-use Rattle.h26x_payload.specs.declared.codec_packetizer.CodecPacketizer.TheVariants.{G722, Opus}
-use Rattle.h26x_payload.specs.declared.codec_packetizer.CodecPacketizer.TheVariants.{AmrWb, Vp8, Vp9, Av1}
-use Rattle.h26x_payload.specs.declared.codec_packetizer.CodecPacketizer.TheVariants.{H264, H265, H266}
 
 -- neither picture ids nor forms change how payloads are read
 pub same-reading : (f : Forms) (s : Settings) (has_id : Bool) (codec : Codec) → (coding_in f s has_id codec).format

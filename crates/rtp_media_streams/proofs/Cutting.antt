@@ -1,24 +1,20 @@
--- The payloads of a sample as its sink makes datagrams of them.
+-- The payloads of a sample as datagrams are made of them.
 use Rattle.std.proofs.Common.{◌≡◌, ℕ, suc, ◌+◌, refl, sym, ◌∙◌, ap, ap₂, subst, arith, List, [], ◌∷◌, ◌++◌, length}
-use Rattle.std.proofs.Common.{add-zero, append-nil, append_assoc, length-append}
+use Rattle.std.proofs.Common.{add-zero}
 use Rattle.std.specs.Prelude.{Option, Some, None, Result, Ok, Err}
-use Rattle.payload_core_base.specs.Outgoing.{Outgoing, TakesAll, outgoing}
+use Rattle.payload_core_base.specs.Outgoing.{Outgoing}
 use Rattle.payload_core_base.specs.Packing.{Packing, Sender, Sent}
 use Rattle.payload_core_base.specs.declared.error.PacketError.{PacketError}
-use Rattle.payload_core_base.specs.Sending.{HasSent, outgoing_from}
+use Rattle.payload_core_base.specs.Sending.{outgoing_from}
 use Rattle.payload_core_audio.specs.RedHistory.{Redundancy, keeping}
-use Rattle.payload_core_audio.specs.RedSinks.{TakesWrapped}
-use Rattle.payload_core_audio.specs.declared.sink.RedSink.{RedSink}
 use Rattle.rtp_wire.specs.Header.{spelled}
 use Rattle.rtp_wire.specs.Values.{Numbering}
 use Rattle.rtp_wire.specs.declared.values.ExtensionValues.{ExtensionValues}
 use Rattle.rtp_media_schedules.specs.SentSamples.{sent_or}
-use Rattle.rtp_media_streams.specs.Redundant.{kept_after, wrapped, wraps}
+use Rattle.rtp_media_streams.specs.Redundant.{kept_after, wraps}
 use Rattle.rtp_media_streams.specs.Sending.{Sending, datagram_of, datagrams_from, on_wire, payload_refusal, stamped}
-use Rattle.rtp_media_streams.specs.Sinks.{TakesOne, datagram_with}
-use Rattle.rtp_media_streams.specs.declared.sink.DatagramSink.{DatagramSink}
-use Rattle.rtp_media_streams.specs.declared.sink.Stamp.{Stamp}
-use Rattle.rtp_media_streams.proofs.Wrapping.{wrap-is}
+use Rattle.rtp_media_streams.specs.Made.{IsMade, IsMadeRedundant, datagram_with, datagrams_with}
+use Rattle.rtp_media_streams.specs.declared.stamp.Stamp.{Stamp}
 
 pub datagrams_from-append : (s : Sending) (n : ℕ) (ps qs : List Outgoing) → datagrams_from s n (ps ++ qs)
     ≡ datagrams_from s n ps ++ datagrams_from s (n + length ps) qs
@@ -42,27 +38,63 @@ length-on_wire pt mtu None ps = refl
 length-on_wire pt mtu (Some r) ps = length-wraps pt mtu r ps
 
 -- a sample that was accepted
-pub record WasSent {S : Type 0} (takes : S → Outgoing → S → Type 0) (packing : Packing) (before after : Sender)
-    (r : Result Sent PacketError) (time : ℕ) (values : ExtensionValues) (old new : S) : Type 0 where
-  pub taken : TakesAll takes old (outgoing_from packing (sent_or before r).packets time values) new
+pub record WasMade (stamp : Stamp) (number : ℕ) (packing : Packing) (before after : Sender)
+    (r : Result Sent PacketError) (time : ℕ) (values : ExtensionValues) (datagrams : List (List ℕ)) : Type 0 where
+  pub made : datagrams ≡ datagrams_with stamp number (outgoing_from packing (sent_or before r).packets time values)
   pub sender : after ≡ (sent_or before r).sender
   pub accepted : payload_refusal r ≡ None
 
-was-sent : {S : Type 0} (takes : S → Outgoing → S → Type 0) (packing : Packing) (before after : Sender)
-    (r : Result Sent PacketError) (time : ℕ) (values : ExtensionValues) (old new : S) →
-    HasSent takes packing r time values old new after → WasSent takes packing before after r time values old new
-was-sent takes packing before after (Ok s) time values old new sent =
-    record { taken = sent.1; sender = sent.0; accepted = refl }
-was-sent takes packing before after (Err e) time values old new sent = absurd sent
+was-made : (stamp : Stamp) (number : ℕ) (packing : Packing) (before after : Sender) (r : Result Sent PacketError)
+    (time : ℕ) (values : ExtensionValues) (datagrams : List (List ℕ))
+    → IsMade stamp number packing r time values datagrams after
+    → WasMade stamp number packing before after r time values datagrams
+was-made stamp number packing before after (Ok s) time values datagrams is =
+    record { made = is.0; sender = is.1; accepted = refl }
+was-made stamp number packing before after (Err e) time values datagrams is = absurd is
 
 -- the same if the packetizer cuts as the stream's row says
-pub sent-as : {S : Type 0} (takes : S → Outgoing → S → Type 0) (packing row : Packing) (before after : Sender)
-    (mtu : ℕ) (bytes : List ℕ) (time : ℕ) (values : ExtensionValues) (old new : S) →
-    packing ≡ row → HasSent takes packing (packing.pack before mtu bytes) time values old new after
-    → WasSent takes row before after (row.pack before mtu bytes) time values old new
-sent-as takes packing row before after mtu bytes time values old new is sent =
-    was-sent takes row before after (row.pack before mtu bytes) time values old new
-    (subst (λ (p : Packing). HasSent takes p (p.pack before mtu bytes) time values old new after) is sent)
+pub made-as : (stamp : Stamp) (number : ℕ) (packing row : Packing) (before after : Sender) (mtu : ℕ) (bytes : List ℕ)
+    (time : ℕ) (values : ExtensionValues) (datagrams : List (List ℕ)) → packing ≡ row
+    → IsMade stamp number packing (packing.pack before mtu bytes) time values datagrams after
+    → WasMade stamp number row before after (row.pack before mtu bytes) time values datagrams
+made-as stamp number packing row before after mtu bytes time values datagrams is made =
+    was-made stamp number row before after (row.pack before mtu bytes) time values datagrams
+    (subst (λ (p : Packing). IsMade stamp number p (p.pack before mtu bytes) time values datagrams after) is made)
+
+-- a sample that was accepted, with redundancy
+pub record WasMadeRedundant (stamp : Stamp) (number : ℕ) (packing : Packing) (before after : Sender)
+    (r : Result Sent PacketError) (time : ℕ) (values : ExtensionValues) (pt budget : ℕ) (old new : Redundancy)
+    (datagrams : List (List ℕ)) : Type 0 where
+  pub made : datagrams ≡ datagrams_with stamp number (wraps pt budget old
+      (outgoing_from packing (sent_or before r).packets time values))
+  pub kept : new ≡ kept_after pt old (outgoing_from packing (sent_or before r).packets time values)
+  pub sender : after ≡ (sent_or before r).sender
+  pub accepted : payload_refusal r ≡ None
+
+was-made-redundant : (stamp : Stamp) (number : ℕ) (packing : Packing) (before after : Sender)
+    (r : Result Sent PacketError) (time : ℕ) (values : ExtensionValues) (pt budget : ℕ) (old new : Redundancy)
+    (datagrams : List (List ℕ))
+    → IsMadeRedundant stamp number packing r time values pt budget old new datagrams after
+    → WasMadeRedundant stamp number packing before after r time values pt budget old new datagrams
+was-made-redundant stamp number packing before after (Ok s) time values pt budget old new datagrams is =
+    record { made = is.0; kept = is.1; sender = is.2; accepted = refl }
+was-made-redundant stamp number packing before after (Err e) time values pt budget old new datagrams is = absurd is
+
+pub made-redundant-as : (stamp : Stamp) (number : ℕ) (packing row : Packing) (before after : Sender) (mtu : ℕ)
+    (bytes : List ℕ) (time : ℕ) (values : ExtensionValues) (pt pt' budget : ℕ) (old new : Redundancy)
+    (datagrams : List (List ℕ)) → packing ≡ row → pt ≡ pt'
+    → IsMadeRedundant stamp number packing (packing.pack before mtu bytes) time values pt budget old new datagrams after
+    → WasMadeRedundant stamp number row before after (row.pack before mtu bytes) time values pt' budget old new
+    datagrams
+made-redundant-as stamp number packing row before after mtu bytes time values pt pt' budget old new datagrams is same
+    made =
+    subst (λ (t : ℕ). WasMadeRedundant stamp number row before after (row.pack before mtu bytes) time values t
+    budget old
+    new datagrams) same
+    (was-made-redundant stamp number row before after (row.pack before mtu bytes) time values pt budget old new
+    datagrams
+    (subst (λ (p : Packing). IsMadeRedundant stamp number p (p.pack before mtu bytes) time values pt budget old new
+    datagrams after) is made))
 
 -- what the datagrams of a stream have alike
 pub record IsStampOf (s : Sending) (stamp : Stamp) : Type 0 where
@@ -79,98 +111,9 @@ module _ (s : Sending) where
       ∙ ap (λ (map : Numbering). spelled map (stamped s.ssrc s.wire_type map number o.marker o.time o.values)
       ++ o.payload) is.exts
 
-  -- what a sink made of payloads
-  pub sink_made : (os : List Outgoing) (old new : DatagramSink) → IsStampOf s old.stamp.now
-      → TakesAll TakesOne old os new →
-      new.datagrams.items ≡ old.datagrams.items ++ datagrams_from s (old.first + length old.datagrams.items) os
-  sink_made [] old new is takes = ap (λ (sink : DatagramSink). sink.datagrams.items) takes
-      ∙ sym (append-nil old.datagrams.items)
-  sink_made (o ∷ os) old new is takes =
-      let after : DatagramSink = takes.0 in
-      let one : TakesOne old o after = takes.1 in
-      let number : ℕ = old.first + length old.datagrams.items in
-      let made : after.datagrams.items ≡ old.datagrams.items ++ datagram_of s number o ∷ [] =
-      one.datagrams ∙ ap (λ (d : List ℕ). old.datagrams.items ++ d ∷ []) (datagram-is old.stamp.now number o is) in
-      let is' : IsStampOf s after.stamp.now = record {
-        ssrc = ap (λ (stamp : Stamp). stamp.ssrc) one.stamp ∙ is.ssrc;
-        pt = ap (λ (stamp : Stamp). stamp.pt) one.stamp ∙ is.pt;
-        exts = ap (λ (stamp : Stamp). stamp.exts) one.stamp ∙ is.exts;
-      } in
-      let next : after.first + length after.datagrams.items ≡ number + 1 =
-      omega (arith, one.first, ap length made, length-append old.datagrams.items (datagram_of s number o ∷ [])) in
-      sink_made os after new is' takes.2
-      ∙ ap₂ (λ (ds : List (List ℕ)) (n : ℕ). ds ++ datagrams_from s n os) made next
-      ∙ append_assoc old.datagrams.items (datagram_of s number o ∷ []) (datagrams_from s (number + 1) os)
-
-  -- a sink that had made nothing
-  pub all_made : (os : List Outgoing) (old new : DatagramSink) → IsStampOf s old.stamp.now → old.first ≡ s.next
-      → old.datagrams.items ≡ [] → TakesAll TakesOne old os new →
-      new.datagrams.items ≡ datagrams_from s s.next os
-  all_made os old new is first none takes =
-      let number : old.first + length old.datagrams.items ≡ s.next = omega (arith, first, ap length none) in
-      sink_made os old new is takes ∙ ap₂ (λ (ds : List (List ℕ)) (n : ℕ). ds ++ datagrams_from s n os) none number
-
-  -- what a sink made of payloads after older ones
-  pub red_made : (pt mtu : ℕ) (os : List Outgoing) (old new : RedSink DatagramSink) → old.pt ≡ pt → old.budget ≡ mtu
-      → IsStampOf s old.sink.stamp.now → TakesAll (TakesWrapped TakesOne) old os new →
-      (new.sink.datagrams.items ≡ old.sink.datagrams.items
-      ++ datagrams_from s (old.sink.first + length old.sink.datagrams.items) (wraps pt mtu old.sender os))
-      × (new.sender ≡ kept_after pt old.sender os)
-  red_made pt mtu [] old new type budget is takes = (
-    ap (λ (sink : RedSink DatagramSink). sink.sink.datagrams.items) takes
-        ∙ sym (append-nil old.sink.datagrams.items),
-    ap (λ (sink : RedSink DatagramSink). sink.sender) takes,
-  )
-  red_made pt mtu (o ∷ os) old new type budget is takes =
-      let after : RedSink DatagramSink = takes.0 in
-      let one : TakesWrapped TakesOne old o after = takes.1 in
-      let made : TakesOne old.sink _ after.sink = one.taken in
-      let number : ℕ = old.sink.first + length old.sink.datagrams.items in
-      let r : Redundancy = old.sender in
-      let wrap : Outgoing = outgoing (wrapped pt mtu r o) o.marker o.time o.values in
-      let sent : one.sent ≡ wrapped pt mtu r o =
-      wrap-is old.pt old.budget r o one.sent one.is_wrap ∙ ap₂ (λ (t b : ℕ). wrapped t b r o) type budget in
-      let datagrams : after.sink.datagrams.items ≡ old.sink.datagrams.items ++ datagram_of s number wrap ∷ [] =
-      made.datagrams ∙ ap (λ (d : List ℕ). old.sink.datagrams.items ++ d ∷ [])
-      (datagram-is old.sink.stamp.now number (outgoing one.sent o.marker o.time o.values) is
-      ∙ ap (λ (b : List ℕ). datagram_of s number (outgoing b o.marker o.time o.values)) sent) in
-      let is' : IsStampOf s after.sink.stamp.now = record {
-        ssrc = ap (λ (stamp : Stamp). stamp.ssrc) made.stamp ∙ is.ssrc;
-        pt = ap (λ (stamp : Stamp). stamp.pt) made.stamp ∙ is.pt;
-        exts = ap (λ (stamp : Stamp). stamp.exts) made.stamp ∙ is.exts;
-      } in
-      let kept : after.sender ≡ keeping r pt o.payload o.time =
-      one.sender ∙ ap (λ (t : ℕ). keeping r t o.payload o.time) type in
-      let next : after.sink.first + length after.sink.datagrams.items ≡ number + 1 =
-      omega (
-        arith,
-        made.first,
-        ap length datagrams,
-        length-append old.sink.datagrams.items (datagram_of s number wrap ∷ []),
-      ) in
-      let rest = red_made pt mtu os after new (one.pt ∙ type) (one.budget ∙ budget) is' takes.2 in
-      let ds : List (List ℕ) = datagram_of s number wrap ∷ [] in (
-        rest.0
-            ∙ ap₂ (λ (xs : List (List ℕ)) (q : Redundancy). xs
-            ++ datagrams_from s (after.sink.first + length after.sink.datagrams.items) (wraps pt mtu q os))
-            datagrams kept
-            ∙ ap (λ (n : ℕ). (old.sink.datagrams.items ++ ds)
-            ++ datagrams_from s n (wraps pt mtu (keeping r pt o.payload o.time) os)) next
-            ∙ append_assoc old.sink.datagrams.items ds
-            (datagrams_from s (number + 1) (wraps pt mtu (keeping r pt o.payload o.time) os)),
-        rest.1 ∙ ap (λ (q : Redundancy). kept_after pt q os) kept,
-      )
-
-  -- a sink that had made nothing
-  pub all_red_made : (pt mtu : ℕ) (os : List Outgoing) (old new : RedSink DatagramSink) → old.pt ≡ pt → old.budget
-      ≡ mtu → IsStampOf s old.sink.stamp.now → old.sink.first ≡ s.next → old.sink.datagrams.items ≡ [] →
-      TakesAll (TakesWrapped TakesOne) old os new →
-      (new.sink.datagrams.items ≡ datagrams_from s s.next (wraps pt mtu old.sender os))
-      × (new.sender ≡ kept_after pt old.sender os)
-  all_red_made pt mtu os old new type budget is first none takes =
-      let number : old.sink.first + length old.sink.datagrams.items ≡ s.next = omega (arith, first, ap length none) in
-      let made = red_made pt mtu os old new type budget is takes in (
-        made.0 ∙ ap₂ (λ (ds : List (List ℕ)) (n : ℕ). ds ++ datagrams_from s n (wraps pt mtu old.sender os)) none
-            number,
-        made.1,
-      )
+  -- the datagrams of payloads
+  pub made-is : (stamp : Stamp) (number : ℕ) (os : List Outgoing) → IsStampOf s stamp → datagrams_with stamp number os
+      ≡ datagrams_from s number os
+  made-is stamp number [] is = refl
+  made-is stamp number (o ∷ os) is = ap₂ (λ (d : List ℕ) (ds : List (List ℕ)). d ∷ ds) (datagram-is stamp number o is)
+      (made-is stamp (number + 1) os is)

@@ -9,7 +9,7 @@ use Rattle.payload_core_buffer.specs.declared.held.RtpMeta.{RtpMeta}
 use Rattle.payload_core_buffer.specs.Steps.{Answer, answer_among}
 use Rattle.rtp_media_schedules.specs.Hearing.{EndsSilent, Event, IsInterrupted, Poll, Stream}
 use Rattle.payload_core_buffer.specs.Steps.{answer_by}
-use Rattle.rtp_media_schedules.specs.Hearing.{handed_out, heard, poll_answer, polled}
+use Rattle.rtp_media_schedules.specs.Hearing.{handed_out, heard, poll_answer}
 use Rattle.rtp_media_schedules.specs.SentSamples.{Timed, timed_unit}
 use Rattle.rtp_media_schedules.proofs.Cuts.{silent-stays}
 use Rattle.rtp_media_streams.specs.Polls.{Answers, AreAnswered, Faults, HandsOut, IsPolled, Silent, WantsMemory}

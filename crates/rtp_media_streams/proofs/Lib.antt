@@ -2,6 +2,7 @@ pub mod Configured
 pub mod Cutting
 pub mod Draining
 pub mod Limiting
+pub mod MadeLemmas
 pub mod Places
 pub mod Polling
 pub mod Sent

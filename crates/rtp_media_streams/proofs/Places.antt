@@ -1,16 +1,16 @@
 -- Where a payload is in its datagram.
-use Rattle.std.proofs.Common.{◌≡◌, ℕ, zero, suc, ◌+◌, ◌*◌, ◌-◌, ◌<◌, ◌≤◌, refl, sym, ◌∙◌, ap, ap₂, subst, arith, Bool}
+use Rattle.std.proofs.Common.{◌≡◌, ℕ, zero, suc, ◌+◌, ◌*◌, ◌-◌, ◌<◌, ◌≤◌, refl, sym, ◌∙◌, ap, ap₂, arith, Bool}
 use Rattle.std.proofs.Common.{true}
-use Rattle.std.proofs.Common.{false, List, [], ◌∷◌, ◌++◌, length, take, drop, true≢false}
+use Rattle.std.proofs.Common.{false, List, [], ◌∷◌, ◌++◌, length, take, drop}
 use Rattle.std.proofs.lemmas.List.{append-nil, drop-append-le, drop-drop, length-append, length-drop, take-append-drop}
 use Rattle.std.proofs.Math.Seq.{take-append_seam}
-use Rattle.std.specs.Prelude.{Option, Some, None, ◌==◌, ◌||◌, nat_lt, if◌then◌else◌, option_and_then, slice_range}
-use Rattle.std.specs.Prelude.{slice_index, MatchOption, IfSome}
+use Rattle.std.specs.Prelude.{Option, Some, None, ◌==◌, if◌then◌else◌, option_and_then, slice_range}
+use Rattle.std.specs.Prelude.{slice_index}
 use Rattle.rtp_wire.specs.Header.{payload_in}
 use Rattle.rtp_wire.specs.Padding.{unpadded, without}
 use Rattle.rtp_wire.specs.Repairs.{Wrapped, wrapped_in}
 use Rattle.rtp_wire.specs.declared.header.RtpHeader.{RtpHeader}
-use Rattle.payload_core_audio.specs.RedReading.{Item, count_of_blocks, items_from, pt_at, read_blocks, read_red}
+use Rattle.payload_core_audio.specs.RedReading.{count_of_blocks, items_from, pt_at, read_blocks, read_red}
 use Rattle.payload_core_audio.specs.RedReading.{size_at}
 use Rattle.rtp_media_streams.specs.Receiving.{brought, carried, plain_brought}
 use Rattle.rtp_media_streams.specs.Redundant.{primary_of, unwrapped}

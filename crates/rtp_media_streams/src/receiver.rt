@@ -49,6 +49,61 @@ pub struct Arrival {
     pub end: usize,
 }
 
+/// Where in a datagram of a stream's own its payload is, and what its header tells but for header extensions.
+#[derive(Clone, Copy, Debug, Drop)]
+pub struct Placed {
+    /// The low 16 bits of its number.
+    pub low: u16,
+    /// Its timestamp, in ticks of the payload type's clock (RFC 3550 5.1).
+    pub time: u32,
+    /// Its marker.
+    pub marker: bool,
+    /// Where its payload begins.
+    pub start: usize,
+    /// The place after the payload's last byte.
+    pub end: usize,
+}
+
+impl Placed {
+    /// What is held of it under a number, with these values.
+    fn meta(&self, number: SeqNo, ext_vals: ExtensionValues) -> RtpMeta
+        ensures { result ≡ record {
+          seq_no = number;
+          time = self.now.time;
+          marker = self.now.marker;
+          ext_vals = ext_vals;
+        } }
+    {
+        RtpMeta {
+            seq_no: number,
+            time: self.time,
+            marker: self.marker,
+            ext_vals,
+        }
+    }
+
+    /// It with the values of its header extensions.
+    pub fn with_values(&self, ext_vals: ExtensionValues) -> Arrival
+        ensures { result ≡ record {
+          low = self.now.low;
+          time = self.now.time;
+          marker = self.now.marker;
+          ext_vals = ext_vals;
+          start = self.now.start;
+          end = self.now.end;
+        } }
+    {
+        Arrival {
+            low: self.low,
+            time: self.time,
+            marker: self.marker,
+            ext_vals,
+            start: self.start,
+            end: self.end,
+        }
+    }
+}
+
 /// A receiving stream: its window and the packets that wait.
 pub struct ReceivingStream {
     alloc: Global,
@@ -134,8 +189,7 @@ fn record(window: &mut Option<SeqNoWindow>, number: SeqNo)
 /// the bytes back.
 fn hold(
     buffer: &mut DepacketizingBuffer<CodecDepacketizer<NotBoxed>>,
-    number: SeqNo,
-    arrival: &Arrival,
+    meta: RtpMeta,
     bytes: Vec<u8>,
     start: usize,
     end: usize,
@@ -144,18 +198,12 @@ fn hold(
     requires within { end ≤ vec_len bytes }
     ensures held { OnOk result (buffer.new ≡ record buffer.old {
       held = pushed buffer.old.holding.held buffer.old.cutoff buffer.old.held
-          (packet_of number (content_of arrival.now.time arrival.now.marker arrival.now.ext_vals
+          (packet_of meta.seq_no (content_of meta.time meta.marker meta.ext_vals
           (slice_range bytes.items start end)));
     }) }
     ensures unchanged { OnErr result (buffer.new ≡ buffer.old) }
     ensures handed_back { IfErr result (λ e. e.value ≡ bytes) }
 {
-    let meta = RtpMeta {
-        seq_no: number,
-        time: arrival.time,
-        marker: arrival.marker,
-        ext_vals: arrival.ext_vals,
-    };
     buffer.push_range(meta, bytes, start, end)
 }
 
@@ -231,30 +279,38 @@ impl ReceivingStream {
     }
 
     /// A datagram of its own as it arrives: the 16 bits of a number, the place of the payload without padding (RFC 3550
-    /// 5.1) and, under the RED type, without redundancy (RFC 2198), and what is told of it; a repair brings the number
-    /// and the payload that it wraps (RFC 4588 4). None if the padding doesn't fit, redundancy can't be read, its
-    /// primary payload has another type, or there is no byte.
+    /// 5.1) and, under the RED type, without redundancy (RFC 2198), and what the header tells; a repair brings the
+    /// number and the payload that it wraps (RFC 4588 4). None if the padding doesn't fit, redundancy can't be read,
+    /// its primary payload has another type, or there is no byte.
     ///
     /// # Conditions
     /// The header is the one in front of the datagram, read without values of header extensions.
-    pub fn arrival(&self, header: &RtpHeader, datagram: &[u8]) -> Option<Arrival>
+    pub fn placed(&self, header: &RtpHeader, datagram: &[u8]) -> Option<Placed>
         requires { header_in empty_map datagram.now ≡ Some header.now }
         ensures brings { MatchOption result (brought self.now.ssrc self.now.types header.now datagram.now ≡ None)
             (λ a. brought self.now.ssrc self.now.types header.now datagram.now
             ≡ Some (record { number = a.low; payload = slice_range datagram.now a.start a.end })) }
-        ensures told { IfSome result (λ a. (a.time ≡ header.now.timestamp) × (a.marker ≡ header.now.marker)
-            × (a.ext_vals ≡ values_read self.now.map datagram.now)) }
+        ensures told { IfSome result (λ a. (a.time ≡ header.now.timestamp) × (a.marker ≡ header.now.marker)) }
         ensures within { IfSome result (λ a. (a.start ≤ a.end) × (a.end ≤ length datagram.now)) }
     {
         let brought = brought_by(self.ssrc, &self.types, header, datagram)?;
-        Some(Arrival {
+        Some(Placed {
             low: brought.number,
             time: header.timestamp,
             marker: header.marker,
-            ext_vals: header.values_in(datagram, &self.exts),
             start: brought.start,
             end: brought.end,
         })
+    }
+
+    /// The values that the stream's map of header extensions reads in a datagram; none if no header is in front of it.
+    pub fn values_of(&self, datagram: &[u8]) -> ExtensionValues
+        ensures { result ≡ values_read self.now.map datagram.now }
+    {
+        match RtpHeader::parse_values(datagram, &self.exts) {
+            Some(values) => values,
+            None => ExtensionValues::absent(),
+        }
     }
 
     /// Takes one datagram of its own in, and returns its widened number; None if that is refused. The payload may be
@@ -266,26 +322,23 @@ impl ReceivingStream {
     ///
     /// # Errors
     /// Out of memory for the packet, which changes nothing.
-    pub fn receive(
-        &mut self,
-        arrival: &Arrival,
-        datagram: &[u8],
-    ) -> Result<Option<SeqNo>, AllocError>
-        requires in_order { arrival.now.start ≤ arrival.now.end }
-        requires within { arrival.now.end ≤ length datagram.now }
-        ensures answer { IfOk result (λ taken. taken ≡ taken_number self.old.stream arrival.now.low) }
-        ensures after { OnOk result (self.new ≡ with_stream self.old (arrived self.old.stream arrival.now.low
-            arrival.now.time arrival.now.marker arrival.now.ext_vals
-            (slice_range datagram.now arrival.now.start arrival.now.end))) }
+    pub fn receive(&mut self, placed: &Placed, datagram: &[u8]) -> Result<Option<SeqNo>, AllocError>
+        requires in_order { placed.now.start ≤ placed.now.end }
+        requires within { placed.now.end ≤ length datagram.now }
+        ensures answer { IfOk result (λ taken. taken ≡ taken_number self.old.stream placed.now.low) }
+        ensures after { OnOk result (self.new ≡ with_stream self.old (arrived self.old.stream placed.now.low
+            placed.now.time placed.now.marker (values_read self.old.map datagram.now)
+            (slice_range datagram.now placed.now.start placed.now.end))) }
         ensures unchanged { OnErr result (self.new ≡ self.old) }
     {
-        let number = number_of(&self.window, arrival.low);
+        let number = number_of(&self.window, placed.low);
         if !accepts(&self.window, number) {
             return Ok(None);
         }
-        let payload = Vec::from_slice(self.alloc, &datagram[arrival.start..arrival.end])?;
+        let payload = Vec::from_slice(self.alloc, &datagram[placed.start..placed.end])?;
         let end = payload.len();
-        hold(&mut self.buffer, number, arrival, payload, 0, end)?;
+        let meta = placed.meta(number, self.values_of(datagram));
+        hold(&mut self.buffer, meta, payload, 0, end)?;
         record(&mut self.window, number);
         Ok(Some(number))
     }
@@ -299,30 +352,24 @@ impl ReceivingStream {
     /// Out of memory for the packet, which changes nothing and hands the datagram back.
     pub fn receive_owned(
         &mut self,
-        arrival: &Arrival,
+        placed: &Placed,
         datagram: Vec<u8>,
     ) -> Result<Option<SeqNo>, AllocFailed<Vec<u8>>>
-        requires in_order { arrival.now.start ≤ arrival.now.end }
-        requires within { arrival.now.end ≤ vec_len datagram }
-        ensures answer { IfOk result (λ taken. taken ≡ taken_number self.old.stream arrival.now.low) }
-        ensures after { OnOk result (self.new ≡ with_stream self.old (arrived self.old.stream arrival.now.low
-            arrival.now.time arrival.now.marker arrival.now.ext_vals
-            (slice_range datagram.items arrival.now.start arrival.now.end))) }
+        requires in_order { placed.now.start ≤ placed.now.end }
+        requires within { placed.now.end ≤ vec_len datagram }
+        ensures answer { IfOk result (λ taken. taken ≡ taken_number self.old.stream placed.now.low) }
+        ensures after { OnOk result (self.new ≡ with_stream self.old (arrived self.old.stream placed.now.low
+            placed.now.time placed.now.marker (values_read self.old.map datagram.items)
+            (slice_range datagram.items placed.now.start placed.now.end))) }
         ensures unchanged { OnErr result (self.new ≡ self.old) }
         ensures handed_back { IfErr result (λ e. e.value ≡ datagram) }
     {
-        let number = number_of(&self.window, arrival.low);
+        let number = number_of(&self.window, placed.low);
         if !accepts(&self.window, number) {
             return Ok(None);
         }
-        hold(
-            &mut self.buffer,
-            number,
-            arrival,
-            datagram,
-            arrival.start,
-            arrival.end,
-        )?;
+        let meta = placed.meta(number, self.values_of(&datagram));
+        hold(&mut self.buffer, meta, datagram, placed.start, placed.end)?;
         record(&mut self.window, number);
         Ok(Some(number))
     }

@@ -1,16 +1,23 @@
 //! The files of streams.
 
-use crate::gaps::{Silence, amr_wb_frames, opus_packets, sound};
-use crate::stream::{Stream, Unit};
+use crate::gaps::{Silence, Sound};
+use crate::stream::Stream;
+use crate::units::UnitReader;
+use crate::writing::{Output, Written, part_of, settle};
+use anyhow::bail;
 use h26x_payload::Codec;
 use media_files::{
-    IvfCodec, OpusStream, RecordingError, TimedUnit, WavCodec, amr_wb_file, annex_b, ivf_file,
-    opus_file, wav_file,
+    IvfCodec, IvfFrames, OpusPages, OpusStream, TimedUnit, WavCodec, opus_duration,
+    push_amr_wb_frames, push_amr_wb_front, push_opus_front, push_wav_front, push_wav_padding,
 };
-use std::alloc::{AllocError, Global};
+use std::alloc::Global;
+use std::io;
 
 // What an encoder of Opus needs in front, at 48,000 samples a second, and a player skips.
 pub(crate) const PRE_SKIP: u16 = 312;
+
+// The most bytes of sound that a WAVE file has room for, and one more.
+const MOST_SOUND: u64 = 2_147_483_648;
 
 /// The ending of a file's name; None if the codec has no file.
 pub(crate) fn ending_of(codec: Codec) -> Option<&'static str> {
@@ -26,67 +33,223 @@ pub(crate) fn ending_of(codec: Codec) -> Option<&'static str> {
     }
 }
 
-/// The units with their times.
-fn timed(alloc: Global, units: &[Unit]) -> Result<Vec<TimedUnit<'_>>, AllocError> {
-    let mut list = Vec::new(alloc);
-    for unit in units {
-        list.push(TimedUnit {
-            time: unit.time,
-            bytes: &unit.bytes,
-        })?;
-    }
-    Ok(list)
-}
-
-/// The bytes of the units.
-fn bare(alloc: Global, units: &[Unit]) -> Result<Vec<&[u8]>, AllocError> {
-    let mut list = Vec::new(alloc);
-    for unit in units {
-        list.push(unit.bytes.as_slice())?;
-    }
-    Ok(list)
-}
-
-/// The file of pictures, or of units after start codes.
-fn video_file(alloc: Global, stream: &Stream) -> Result<Vec<u8>, RecordingError> {
-    let codec = match stream.row.codec {
-        Codec::Vp8 => IvfCodec::Vp8,
-        Codec::Vp9 => IvfCodec::Vp9,
-        Codec::Av1 => IvfCodec::Av1,
-        _ => return Ok(annex_b(alloc, &bare(alloc, &stream.units)?)?),
-    };
-    let frames = timed(alloc, &stream.units)?;
-    ivf_file(alloc, codec, stream.row.rate.get(), &frames)
-}
-
-/// The file of a stream, if its codec has one.
-pub(crate) fn file_of(
+/// A stream whose file is written.
+#[derive(Clone, Copy)]
+struct Source<'a> {
+    rt: &'a HostRuntime,
     alloc: Global,
-    stream: &Stream,
-    silence: &mut Silence,
-) -> Result<Option<Vec<u8>>, RecordingError> {
-    if ending_of(stream.row.codec).is_none() {
-        return Ok(None);
+    stream: &'a Stream,
+}
+
+impl<'a> Source<'a> {
+    /// Its units, from the first on.
+    fn units(&self) -> io::Result<UnitReader<'a>> {
+        self.stream.units.reader(self.rt)
     }
-    let units = stream.units.as_slice();
-    let (codec, quiet) = match stream.row.codec {
-        Codec::Opus => {
-            let stream = OpusStream {
-                channels: stream.row.channels.clamp(1, 2),
-                pre_skip: PRE_SKIP,
-                serial: stream.ssrc.get(),
+
+    /// Writes the frames of pictures, if there is a file; returns them.
+    fn push_frames(
+        &self,
+        codec: IvfCodec,
+        output: &mut Output,
+        is_written: bool,
+    ) -> anyhow::Result<IvfFrames> {
+        let mut frames = IvfFrames::new(codec, self.stream.units.first.unwrap_or(0));
+        let mut units = self.units()?;
+        for _ in 0..self.stream.units.count {
+            let Some(unit) = units.next()? else {
+                break;
             };
-            return Ok(Some(opus_file(alloc, stream, &opus_packets(alloc, units, silence)?)?));
+            let timed = TimedUnit {
+                time: unit.time,
+                bytes: &unit.bytes,
+            };
+            frames.push(&timed, &mut output.waiting)?;
+            if is_written {
+                output.flow()?;
+            } else {
+                output.waiting.clear();
+            }
         }
-        Codec::AmrWb => return Ok(Some(amr_wb_file(
-            alloc,
-            &amr_wb_frames(alloc, units, silence)?,
-        )?)),
-        Codec::PCMU => (WavCodec::Pcmu, 0xff),
-        Codec::PCMA => (WavCodec::Pcma, 0xd5),
-        Codec::G722 => (WavCodec::G722, 0xfa),
-        _ => return Ok(Some(video_file(alloc, stream)?)),
+        Ok(frames)
+    }
+
+    /// Writes pictures as IVF.
+    fn write_ivf(&self, codec: IvfCodec, output: &mut Output) -> anyhow::Result<()> {
+        let frames = self.push_frames(codec, output, false)?;
+        let (width, height) = self.stream.heads.size.unwrap_or((0, 0));
+        let width = u16::try_from(width).unwrap_or(0);
+        let height = u16::try_from(height).unwrap_or(0);
+        frames.push_header(
+            self.stream.row.rate.get(),
+            (width, height),
+            &mut output.waiting,
+        )?;
+        let _frames = self.push_frames(codec, output, true)?;
+        Ok(())
+    }
+
+    /// Writes units that begin with start codes one after the other.
+    fn write_annex_b(&self, output: &mut Output) -> anyhow::Result<()> {
+        let mut units = self.units()?;
+        for _ in 0..self.stream.units.count {
+            let Some(unit) = units.next()? else {
+                break;
+            };
+            output.waiting.extend_from_slice(&unit.bytes)?;
+            output.flow()?;
+        }
+        Ok(())
+    }
+
+    /// How many packets of Opus there are from the first that is one, with those that fill gaps.
+    fn count_packets(&self, mut silence: Silence) -> anyhow::Result<u64> {
+        let (mut sound, mut units, mut count) = (Sound::new(Codec::Opus), self.units()?, 0u64);
+        for _ in 0..self.stream.units.count {
+            let Some(unit) = units.next()? else {
+                break;
+            };
+            let lost = sound.fill(&unit, &mut silence) as u64;
+            if count > 0 || opus_duration(&unit.bytes) > 0 {
+                count = count.saturating_add(lost).saturating_add(1);
+            }
+        }
+        Ok(count)
+    }
+
+    /// Writes packets of Opus.
+    fn write_opus(&self, silence: &mut Silence, output: &mut Output) -> anyhow::Result<()> {
+        let count = self.count_packets(*silence)?;
+        let stream = OpusStream {
+            channels: self.stream.row.channels.clamp(1, 2),
+            pre_skip: PRE_SKIP,
+            serial: self.stream.ssrc.get(),
+        };
+        push_opus_front(self.alloc, stream, count == 0, &mut output.waiting)?;
+        let mut pages = OpusPages::new(self.alloc, stream.serial);
+        let (mut sound, mut units, mut left) = (Sound::new(Codec::Opus), self.units()?, count);
+        for _ in 0..self.stream.units.count {
+            let Some(unit) = units.next()? else {
+                break;
+            };
+            let lost = sound.fill(&unit, silence);
+            if left == count && opus_duration(&unit.bytes) == 0 {
+                continue;
+            }
+            for _ in 0..lost {
+                left = left.saturating_sub(1);
+                pages.push(self.alloc, None, left == 0, &mut output.waiting)?;
+                output.flow()?;
+            }
+            left = left.saturating_sub(1);
+            pages.push(
+                self.alloc,
+                Some(&unit.bytes),
+                left == 0,
+                &mut output.waiting,
+            )?;
+            output.flow()?;
+        }
+        Ok(())
+    }
+
+    /// Writes frames of AMR-WB.
+    fn write_amr_wb(&self, silence: &mut Silence, output: &mut Output) -> anyhow::Result<()> {
+        push_amr_wb_front(&mut output.waiting)?;
+        let (mut sound, mut units) = (Sound::new(Codec::AmrWb), self.units()?);
+        for _ in 0..self.stream.units.count {
+            let Some(unit) = units.next()? else {
+                break;
+            };
+            for _ in 0..sound.fill(&unit, silence) {
+                push_amr_wb_frames(None, &mut output.waiting)?;
+                output.flow()?;
+            }
+            push_amr_wb_frames(Some(&unit.bytes), &mut output.waiting)?;
+            output.flow()?;
+        }
+        Ok(())
+    }
+
+    /// How many bytes sound has, with those that fill gaps.
+    fn count_bytes(&self, mut silence: Silence) -> anyhow::Result<u64> {
+        let (mut sound, mut units, mut len) = (Sound::new(Codec::PCMU), self.units()?, 0u64);
+        for _ in 0..self.stream.units.count {
+            let Some(unit) = units.next()? else {
+                break;
+            };
+            let lost = sound.fill(&unit, &mut silence) as u64;
+            len = len
+                .saturating_add(lost)
+                .saturating_add(unit.bytes.len() as u64);
+        }
+        Ok(len)
+    }
+
+    /// Writes sound with a byte a tick as WAVE.
+    fn write_wav(
+        &self,
+        codec: WavCodec,
+        quiet: u8,
+        silence: &mut Silence,
+        output: &mut Output,
+    ) -> anyhow::Result<()> {
+        let len = self.count_bytes(*silence)?;
+        if len >= MOST_SOUND {
+            bail!("it has more bytes than a WAVE file has room for")
+        }
+        push_wav_front(codec, len as u32, &mut output.waiting)?;
+        let (mut sound, mut units) = (Sound::new(Codec::PCMU), self.units()?);
+        for _ in 0..self.stream.units.count {
+            let Some(unit) = units.next()? else {
+                break;
+            };
+            for _ in 0..sound.fill(&unit, silence) {
+                output.waiting.push(quiet)?;
+                output.flow()?;
+            }
+            output.waiting.extend_from_slice(&unit.bytes)?;
+            output.flow()?;
+        }
+        push_wav_padding(len as usize, &mut output.waiting)?;
+        Ok(())
+    }
+
+    /// Writes the file.
+    fn write(&self, part: &str, silence: &mut Silence) -> anyhow::Result<Written> {
+        let mut output = Output::create(self.rt, part)?;
+        match self.stream.row.codec {
+            Codec::Vp8 => self.write_ivf(IvfCodec::Vp8, &mut output)?,
+            Codec::Vp9 => self.write_ivf(IvfCodec::Vp9, &mut output)?,
+            Codec::Av1 => self.write_ivf(IvfCodec::Av1, &mut output)?,
+            Codec::Opus => self.write_opus(silence, &mut output)?,
+            Codec::AmrWb => self.write_amr_wb(silence, &mut output)?,
+            Codec::PCMU => self.write_wav(WavCodec::Pcmu, 0xff, silence, &mut output)?,
+            Codec::PCMA => self.write_wav(WavCodec::Pcma, 0xd5, silence, &mut output)?,
+            Codec::G722 => self.write_wav(WavCodec::G722, 0xfa, silence, &mut output)?,
+            _ => self.write_annex_b(&mut output)?,
+        }
+        output.end()
+    }
+}
+
+/// Writes the file of a stream under this name.
+pub(crate) fn write_file(
+    rt: &HostRuntime,
+    stream: &Stream,
+    name: &str,
+    silence: &mut Silence,
+    is_forced: bool,
+) -> anyhow::Result<Written> {
+    if let Some(fault) = stream.units.fault() {
+        bail!("its units couldn't be put away: {fault}")
+    }
+    let part = part_of(rt, name, is_forced)?;
+    let source = Source {
+        rt,
+        alloc: rt.alloc(),
+        stream,
     };
-    let bytes = sound(alloc, units, quiet, silence)?;
-    Ok(Some(wav_file(alloc, codec, &[bytes.as_slice()])?))
+    let written = source.write(&part, silence);
+    settle(rt, &part, name, written)
 }

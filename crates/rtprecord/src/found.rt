@@ -4,13 +4,13 @@
 #[derive(Clone, Copy)]
 pub(crate) enum Found {
     None,
-    Once(usize),
+    Once(u64),
     Often,
 }
 
 impl Found {
     /// What it has found with one place more.
-    pub(crate) fn and(self, place: usize) -> Found {
+    pub(crate) fn and(self, place: u64) -> Found {
         match self {
             Found::None => Found::Once(place),
             Found::Once(_) | Found::Often => Found::Often,
@@ -18,7 +18,7 @@ impl Found {
     }
 
     /// The place, if it is the only one.
-    pub(crate) fn only(self) -> Option<usize> {
+    pub(crate) fn only(self) -> Option<u64> {
         match self {
             Found::Once(place) => Some(place),
             Found::None | Found::Often => None,

@@ -1,8 +1,8 @@
 //! Gaps between packets of sound, which files fill so that time goes on.
 
-use crate::stream::Unit;
+use crate::units::Unit;
+use h26x_payload::Codec;
 use media_files::opus_duration;
-use std::alloc::{AllocError, Global};
 
 // How many ticks a frame of AMR-WB has, and how many bytes follow the header of each type (RFC 4867 5.3).
 const AMR_WB_FRAME: u32 = 320;
@@ -77,73 +77,51 @@ fn amr_wb_ticks(unit: &[u8]) -> u32 {
     ticks
 }
 
-/// Takes so many lost packets.
-fn push_lost<'a>(count: u32, items: &mut Vec<Option<&'a [u8]>>) -> Result<(), AllocError> {
-    for _ in 0..count {
-        items.push(None)?;
-    }
-    Ok(())
+/// Sound whose gaps are filled: when the packet before began, and how many ticks it has.
+#[derive(Clone, Copy)]
+pub(crate) struct Sound {
+    codec: Codec,
+    before: Option<(u32, u32)>,
 }
 
-/// The packets of Opus, with None for each that is missing by the times.
-pub(crate) fn opus_packets<'a>(
-    alloc: Global,
-    units: &'a [Unit],
-    silence: &mut Silence,
-) -> Result<Vec<Option<&'a [u8]>>, AllocError> {
-    let mut items = Vec::new(alloc);
-    let mut before = None;
-    for unit in units {
-        if let Some((time, ticks)) = before {
-            let lost = missing(time, ticks, unit.time, ticks);
-            push_lost(silence.fill(lost, ticks, OPUS_RATE), &mut items)?;
+impl Sound {
+    /// Sound of a codec, with no packet yet.
+    pub(crate) fn new(codec: Codec) -> Sound {
+        Sound {
+            codec,
+            before: None,
         }
-        items.push(Some(unit.bytes.as_slice()))?;
-        before = Some((unit.time, opus_duration(&unit.bytes) as u32));
     }
-    Ok(items)
-}
 
-/// The frames of AMR-WB, with None for each that is missing by the times.
-pub(crate) fn amr_wb_frames<'a>(
-    alloc: Global,
-    units: &'a [Unit],
-    silence: &mut Silence,
-) -> Result<Vec<Option<&'a [u8]>>, AllocError> {
-    let mut items = Vec::new(alloc);
-    let mut before = None;
-    for unit in units {
-        if let Some((time, ticks)) = before {
-            let lost = missing(time, ticks, unit.time, AMR_WB_FRAME);
-            push_lost(silence.fill(lost, AMR_WB_FRAME, AMR_WB_RATE), &mut items)?;
-        }
-        items.push(Some(unit.bytes.as_slice()))?;
-        before = Some((unit.time, amr_wb_ticks(&unit.bytes)));
-    }
-    Ok(items)
-}
-
-/// The bytes of sound with one byte a tick, and a byte of silence for each tick that is missing by the times.
-pub(crate) fn sound(
-    alloc: Global,
-    units: &[Unit],
-    quiet: u8,
-    silence: &mut Silence,
-) -> Result<Vec<u8>, AllocError> {
-    let mut bytes = Vec::new(alloc);
-    let mut before = None;
-    for unit in units {
-        if let Some((time, len)) = before {
-            let lost = missing(time, len, unit.time, 1);
-            for _ in 0..silence.fill(lost, 1, SOUND_RATE) {
-                bytes.push(quiet)?;
+    /// How many ticks a packet has, how many of them a step has that is filled, and how many are in a second.
+    fn ticks(&self, unit: &Unit) -> (u32, u32, u32) {
+        match self.codec {
+            Codec::Opus => {
+                let ticks = u32::try_from(opus_duration(&unit.bytes)).unwrap_or(u32::MAX);
+                (ticks, ticks, OPUS_RATE)
+            }
+            Codec::AmrWb => (amr_wb_ticks(&unit.bytes), AMR_WB_FRAME, AMR_WB_RATE),
+            _ => {
+                let ticks = u32::try_from(unit.bytes.len()).unwrap_or(u32::MAX);
+                (ticks, 1, SOUND_RATE)
             }
         }
-        bytes.extend_from_slice(&unit.bytes)?;
-        before = Some((
-            unit.time,
-            u32::try_from(unit.bytes.len()).unwrap_or(u32::MAX),
-        ));
     }
-    Ok(bytes)
+
+    /// How many steps are filled before this packet: packets of Opus as long as the one before it, frames of AMR-WB, or
+    /// bytes.
+    pub(crate) fn fill(&mut self, unit: &Unit, silence: &mut Silence) -> u32 {
+        let (ticks, own_step, rate) = self.ticks(unit);
+        let Some((time, before)) = self.before else {
+            self.before = Some((unit.time, ticks));
+            return 0;
+        };
+        self.before = Some((unit.time, ticks));
+        let step = if self.codec == Codec::Opus {
+            before
+        } else {
+            own_step
+        };
+        silence.fill(missing(time, before, unit.time, step), step, rate)
+    }
 }

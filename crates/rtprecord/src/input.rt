@@ -1,13 +1,17 @@
-//! Captures of any kind.
+//! Captures of any kind, in pieces.
 
 use crate::fragments::Fragments;
 use crate::recorder::Recorder;
 use anyhow::bail;
 use media_files::captures::{
-    Capture, CaptureError, CapturedPacket, HexDatagram, HexError, PassedOver, Resolution, Rtpdump,
-    UdpDatagram, is_gzip, read_hex_lines, read_pcap, read_pcapng, read_rtpdump, udp_datagram_in,
+    Capture, CapturedPacket, HexDatagram, HexError, PassedOver, PcapHeader, PcapngSection,
+    Resolution, Rtpdump, UdpDatagram, is_gzip, is_pcapng, pcap_header, read_hex_lines,
+    read_pcap_records, read_pcapng_blocks, read_rtpdump_records, rtpdump_records, udp_datagram_in,
 };
 use std::alloc::{AllocError, Global};
+
+// How many bytes the header of a pcap file has.
+const PCAP_HEADER: usize = 24;
 
 /// A datagram of a capture.
 #[derive(Clone, Copy)]
@@ -45,78 +49,145 @@ impl Arrival<'_> {
 
 /// What a file holds.
 #[derive(Drop)]
-pub(crate) enum Input<'a> {
-    /// Packets of a capture.
-    Packets(Capture<'a>),
+enum Format {
+    /// Packets of pcap.
+    Pcap(PcapHeader),
+    /// Packets of pcapng, after blocks that led to this section.
+    Pcapng(PcapngSection),
     /// Datagrams of rtpdump.
-    Dump(Rtpdump<'a>),
-    /// Datagrams in lines of hexadecimal.
-    Lines(Vec<HexDatagram>),
+    Dump,
+    /// Datagrams in lines of hexadecimal, after this many lines.
+    Lines(u64),
 }
 
-impl<'a> Input<'a> {
-    /// What a file holds: the first format that it begins as, and else lines of hexadecimal.
-    pub(crate) fn of(alloc: Global, file: &'a [u8]) -> anyhow::Result<Input<'a>> {
-        if is_gzip(file) {
+/// A file that is read in pieces.
+#[derive(Drop)]
+pub(crate) struct Input {
+    format: Format,
+    fragments: Fragments,
+}
+
+/// The bytes of a text up to its last whole line; all of it if nothing follows.
+fn whole_lines(text: &[u8], is_end: bool) -> &[u8] {
+    if is_end {
+        return text;
+    }
+    match text.iter().rposition(|byte| *byte == b'\n') {
+        Some(last) => text.get(..=last).unwrap_or(&[]),
+        None => &[],
+    }
+}
+
+/// The datagrams of lines, after this many others.
+fn datagrams_of(alloc: Global, text: &[u8], before: u64) -> anyhow::Result<Vec<HexDatagram>> {
+    match read_hex_lines(alloc, text) {
+        Ok(datagrams) => Ok(datagrams),
+        Err(HexError::Memory) => bail!("out of memory"),
+        Err(HexError::BadLine(number)) => {
+            let number = number.saturating_add(before);
+            bail!(
+                "the capture is no pcap, pcapng or rtpdump, and its line {number} is no hexadecimal"
+            )
+        }
+    }
+}
+
+impl Input {
+    /// What a file holds that begins so, and how many bytes are in front of its packets: the first format that it begins
+    /// as, and else lines of hexadecimal.
+    pub(crate) fn of(alloc: Global, front: &[u8]) -> anyhow::Result<(Input, usize)> {
+        if is_gzip(front) {
             bail!("it is compressed by gzip: unpack it first, as by gunzip")
         }
-        match read_pcapng(alloc, file) {
-            Ok(capture) => return Ok(Input::Packets(capture)),
-            Err(CaptureError::Memory) => bail!("out of memory"),
-            Err(CaptureError::UnknownFormat) => {}
-        }
-        match read_pcap(alloc, file) {
-            Ok(capture) => return Ok(Input::Packets(capture)),
-            Err(CaptureError::Memory) => bail!("out of memory"),
-            Err(CaptureError::UnknownFormat) => {}
-        }
-        match read_rtpdump(alloc, file) {
-            Ok(dump) => return Ok(Input::Dump(dump)),
-            Err(CaptureError::Memory) => bail!("out of memory"),
-            Err(CaptureError::UnknownFormat) => {}
-        }
-        match read_hex_lines(alloc, file) {
-            Ok(datagrams) => Ok(Input::Lines(datagrams)),
-            Err(HexError::Memory) => bail!("out of memory"),
-            Err(HexError::BadLine(number)) => bail!(
-                "the capture is no pcap, pcapng or rtpdump, and its line {number} is no hexadecimal"
-            ),
-        }
+        let (format, len) = if is_pcapng(front) {
+            (Format::Pcapng(PcapngSection::new(alloc)), 0)
+        } else if let Some(header) = pcap_header(front) {
+            (Format::Pcap(header), PCAP_HEADER)
+        } else if let Some(records) = rtpdump_records(front) {
+            (Format::Dump, front.len().saturating_sub(records.len()))
+        } else {
+            (Format::Lines(0), 0)
+        };
+        let fragments = Fragments::new(alloc);
+        Ok((Input { format, fragments }, len))
     }
 
-    /// Hands each datagram to the recorder, in their order.
-    pub(crate) fn feed(&self, alloc: Global, recorder: &mut Recorder) -> Result<(), AllocError> {
-        match self {
-            Input::Packets(capture) => {
-                let mut fragments = Fragments::new(alloc);
-                for packet in &capture.packets {
-                    feed_packet(packet, &mut fragments, recorder)?;
-                }
-                fragments.leave(recorder);
-                recorder.leave(capture.unread.len());
+    /// Hands each datagram that is whole in a piece to the recorder, in their order; returns how many bytes of the piece
+    /// that takes. The rest comes again in front of the next piece.
+    pub(crate) fn feed(
+        &mut self,
+        alloc: Global,
+        piece: &[u8],
+        is_end: bool,
+        recorder: &mut Recorder,
+    ) -> anyhow::Result<usize> {
+        let unread = match &mut self.format {
+            Format::Pcap(header) => {
+                let capture = read_pcap_records(alloc, *header, piece)?;
+                feed_packets(&capture, &mut self.fragments, recorder)?;
+                capture.unread.len()
             }
-            Input::Dump(dump) => {
-                for datagram in &dump.datagrams {
-                    recorder.take(&Arrival {
-                        time: Some((datagram.milliseconds as u64).saturating_mul(1000)),
-                        ports: None,
-                        bytes: datagram.bytes,
-                    })?;
-                }
-                recorder.leave(dump.unread.len());
+            Format::Pcapng(section) => {
+                let capture = read_pcapng_blocks(alloc, section, piece)?;
+                feed_packets(&capture, &mut self.fragments, recorder)?;
+                capture.unread.len()
             }
-            Input::Lines(datagrams) => {
-                for datagram in datagrams {
-                    recorder.take(&Arrival {
-                        time: datagram.milliseconds.map(|time| time.saturating_mul(1000)),
-                        ports: None,
-                        bytes: &datagram.bytes,
-                    })?;
-                }
+            Format::Dump => {
+                let dump = read_rtpdump_records(alloc, piece)?;
+                feed_dump(&dump, recorder)?;
+                dump.unread.len()
             }
-        }
-        Ok(())
+            Format::Lines(before) => {
+                let lines = whole_lines(piece, is_end);
+                feed_lines(&datagrams_of(alloc, lines, *before)?, recorder)?;
+                let count = lines.iter().filter(|byte| **byte == b'\n').count();
+                *before = before.saturating_add(count as u64);
+                piece.len().saturating_sub(lines.len())
+            }
+        };
+        Ok(piece.len().saturating_sub(unread))
     }
+
+    /// Counts the fragments whose others never came.
+    pub(crate) fn leave(&self, recorder: &mut Recorder) {
+        self.fragments.leave(recorder);
+    }
+}
+
+/// Hands the datagrams in packets to the recorder.
+fn feed_packets(
+    capture: &Capture<'_>,
+    fragments: &mut Fragments,
+    recorder: &mut Recorder,
+) -> Result<(), AllocError> {
+    for packet in &capture.packets {
+        feed_packet(packet, fragments, recorder)?;
+    }
+    Ok(())
+}
+
+/// Hands datagrams of rtpdump to the recorder.
+fn feed_dump(dump: &Rtpdump<'_>, recorder: &mut Recorder) -> Result<(), AllocError> {
+    for datagram in &dump.datagrams {
+        recorder.take(&Arrival {
+            time: Some((datagram.milliseconds as u64).saturating_mul(1000)),
+            ports: None,
+            bytes: datagram.bytes,
+        })?;
+    }
+    Ok(())
+}
+
+/// Hands datagrams of lines to the recorder.
+fn feed_lines(datagrams: &[HexDatagram], recorder: &mut Recorder) -> Result<(), AllocError> {
+    for datagram in datagrams {
+        recorder.take(&Arrival {
+            time: datagram.milliseconds.map(|time| time.saturating_mul(1000)),
+            ports: None,
+            bytes: &datagram.bytes,
+        })?;
+    }
+    Ok(())
 }
 
 /// How many microseconds so many ticks are, rounded down.
@@ -146,9 +217,9 @@ pub(crate) fn feed_datagram(
 }
 
 /// Hands the datagram in a packet to the recorder, or counts why there is none.
-fn feed_packet<'a>(
-    packet: &CapturedPacket<'a>,
-    fragments: &mut Fragments<'a>,
+fn feed_packet(
+    packet: &CapturedPacket<'_>,
+    fragments: &mut Fragments,
     recorder: &mut Recorder,
 ) -> Result<(), AllocError> {
     match udp_datagram_in(packet.link, packet.bytes) {

@@ -1,6 +1,5 @@
 //! Layers of pictures of VP9, each a frame of its own (RFC 9628 4.2).
 
-use h26x_payload::RtpMeta;
 use std::alloc::AllocError;
 use std::collections::BTreeMap;
 
@@ -99,37 +98,31 @@ impl Layers {
         Ok(())
     }
 
-    /// The sizes of the layers that a unit's packets have, of which the last part counts to the last layer.
+    /// The sizes of the layers that a unit's packets have, which have the numbers from the first to the last; the last
+    /// part counts to the last layer. The parts of packets before them are forgotten, as no unit of them will come.
     pub(crate) fn take(
         &mut self,
-        metas: &[RtpMeta],
+        first: u64,
+        last: u64,
         sizes: &mut Vec<u32>,
     ) -> Result<(), AllocError> {
-        for meta in metas {
-            let Some(part) = self.parts.remove(&meta.seq_no.get()) else {
-                continue;
+        for _ in 0..self.parts.len() {
+            match self.parts.first_key_value() {
+                Some((number, _)) if *number <= last => {}
+                _ => break,
+            }
+            let Some((number, part)) = self.parts.pop_first() else {
+                break;
             };
+            if number < first {
+                continue;
+            }
             if part.is_begin || sizes.is_empty() {
                 sizes.push(part.len)?;
             } else if let Some(size) = sizes.last_mut() {
                 *size = size.saturating_add(part.len);
             }
         }
-        if let Some(meta) = metas.last() {
-            self.forget_below(meta.seq_no.get());
-        }
         Ok(())
-    }
-
-    /// Forgets the parts of packets below a number, of which no unit will come.
-    fn forget_below(&mut self, number: u64) {
-        for _ in 0..self.parts.len() {
-            match self.parts.first_key_value() {
-                Some((first, _)) if *first < number => {
-                    let _ = self.parts.pop_first();
-                }
-                _ => break,
-            }
-        }
     }
 }

@@ -9,15 +9,20 @@
 mod arguments;
 mod av1;
 mod bits;
+mod clocks;
 mod files;
 mod found;
 mod fragments;
 mod gaps;
+mod heads;
+mod hevc;
 mod input;
 mod layers;
 mod matroska;
 mod passed;
 mod places;
+mod progress;
+mod reading;
 mod recorder;
 mod repairs;
 mod report;
@@ -31,11 +36,12 @@ mod sizes;
 mod source;
 mod stream;
 mod tracks;
+mod units;
 mod writing;
 
 use anyhow::bail;
 use arguments::{Arguments, command};
-use input::Input;
+use reading::read;
 use recorder::{Limits, Recorder};
 use rows::{no_row, rows_of};
 use std::process::ExitCode;
@@ -89,18 +95,6 @@ fn tell(rt: &HostRuntime, fault: &clap::Error) -> anyhow::Result<u8> {
     Ok(if fault.exit_code() == 0 { 0 } else { 2 })
 }
 
-/// Takes the datagrams of a capture.
-fn take(rt: &HostRuntime, name: &str, recorder: &mut Recorder) -> anyhow::Result<()> {
-    let file = match fs::read(rt, name) {
-        Ok(file) => file,
-        Err(fault) => bail!("{name}: {fault}"),
-    };
-    match Input::of(rt.alloc(), &file) {
-        Ok(input) => Ok(input.feed(rt.alloc(), recorder)?),
-        Err(fault) => bail!("{name}: {fault}"),
-    }
-}
-
 /// Records the streams of the captures.
 fn record(rt: &HostRuntime, arguments: Arguments) -> anyhow::Result<u8> {
     let rows = rows_of(rt, &arguments)?;
@@ -108,17 +102,34 @@ fn record(rt: &HostRuntime, arguments: Arguments) -> anyhow::Result<u8> {
         hold_back: arguments.hold_back,
         held: arguments.held,
         most_streams: arguments.most_streams,
+        is_kept: !arguments.is_list,
     };
-    let ports = arguments.ports.clone()?;
-    let mut recorder = Recorder::new(rt.alloc(), rows, limits, ports);
+    let (ports, folder) = (arguments.ports.clone()?, arguments.out.clone()?);
+    let mut recorder = Recorder::new(rt.alloc(), rows, limits, ports, folder);
+    if !arguments.is_list {
+        fs::create_dir_all(rt, arguments.out.as_str())?;
+    }
+    let status = record_with(rt, &arguments, &mut recorder);
+    recorder.remove_units(rt);
+    status
+}
+
+/// Records the streams of the captures with a new recorder.
+fn record_with(
+    rt: &HostRuntime,
+    arguments: &Arguments,
+    recorder: &mut Recorder,
+) -> anyhow::Result<u8> {
     for name in &arguments.captures {
-        take(rt, name.as_str(), &mut recorder)?;
+        if let Err(fault) = read(rt, name.as_str(), recorder) {
+            bail!("{name}: {fault}")
+        }
     }
     recorder.finish();
-    if !report::print(rt, &recorder, &arguments)? {
+    if !report::print(rt, recorder, arguments)? {
         return Ok(1);
     }
-    if recorder.streams.iter().any(|stream| stream.is_encrypted) {
+    if recorder.streams.values().any(|stream| stream.is_encrypted) {
         return Ok(3);
     }
     let is_found = !recorder.streams.is_empty() || (arguments.is_list && !recorder.seen.is_empty());

@@ -1,15 +1,23 @@
 //! Streams in one Matroska file, each as far after the others as it began.
 
+use crate::clocks::{arrived, microseconds, next_ticks, reported};
 use crate::reports::SenderReport;
 use crate::stream::Stream;
-use crate::tracks::{Track, framed, is_key, track_of};
-use media_files::{MkvBlock, MkvTrack, RecordingError, mkv_file};
+use crate::tracks::{Track, framed, track_of};
+use crate::units::UnitReader;
+use crate::writing::{Output, Written, part_of, settle};
+use anyhow::bail;
+use media_files::{MkvBlock, MkvClusters, MkvTrack, push_mkv_front};
 use std::alloc::{AllocError, Global};
+use std::collections::BTreeMap;
+use std::io;
+
+// How many tracks a file has at most.
+const MOST_TRACKS: usize = 126;
 
 /// A unit of a track.
 #[derive(Drop)]
 struct Frame {
-    track: u8,
     /// When it is seen or heard, in milliseconds.
     time: u64,
     /// The latest time of its track so far: frames are written in their order of decoding.
@@ -26,55 +34,31 @@ struct Part<'a> {
     began: i64,
 }
 
+/// A track whose frames are read.
+#[derive(Drop)]
+struct Lane<'a> {
+    stream: &'a Stream,
+    number: u8,
+    units: UnitReader<'a>,
+    /// How many microseconds after the file it begins.
+    offset: i64,
+    /// The clock of the last frame: ticks from the first one on, and its timestamp.
+    ticks: i64,
+    before: u32,
+    turn: u64,
+    count: u64,
+    next: Option<Frame>,
+}
+
 /// The file of streams, and the SSRCs of those that have no track.
 #[derive(Drop)]
 pub(crate) struct Matroska {
-    pub(crate) bytes: Vec<u8>,
+    pub(crate) written: Written,
     pub(crate) left_out: Vec<u32>,
 }
 
-/// How many microseconds so many ticks are.
-fn microseconds(ticks: i64, rate: u32) -> i64 {
-    ticks
-        .saturating_mul(1_000_000)
-        .checked_div(rate as i64)
-        .unwrap_or(0)
-}
-
-/// How many microseconds a stream's clock takes from one time to another, the nearest that has these 32 bits.
-fn elapsed(from: u32, to: u32, rate: u32) -> i64 {
-    let ahead = to.wrapping_sub(from) as i64;
-    let behind = from.wrapping_sub(to) as i64;
-    let ticks = if ahead <= behind {
-        ahead
-    } else {
-        behind.saturating_neg()
-    };
-    microseconds(ticks, rate)
-}
-
-/// When a stream's first unit began by a report of its sender, in microseconds since 1900 (RFC 3550 6.4.1).
-fn reported(stream: &Stream, reports: &[SenderReport]) -> Option<i64> {
-    let report = reports
-        .iter()
-        .find(|report| report.ssrc == stream.ssrc.get())?;
-    let time = stream.units.first()?.time;
-    let seconds = (report.ntp / 0x1_0000_0000).saturating_mul(1_000_000);
-    let fraction = (report.ntp % 0x1_0000_0000).saturating_mul(1_000_000) / 0x1_0000_0000;
-    let reported = i64::try_from(seconds.saturating_add(fraction)).ok()?;
-    reported.checked_add(elapsed(report.rtp_time, time, stream.row.rate.get()))
-}
-
-/// When a stream's first unit came, in microseconds of the capture's clock.
-fn arrived(stream: &Stream) -> Option<i64> {
-    let (time, rtp_time) = stream.began?;
-    let first = stream.units.first()?.time;
-    let time = i64::try_from(time).ok()?;
-    time.checked_add(elapsed(rtp_time, first, stream.row.rate.get()))
-}
-
 /// Sets when the streams began: by reports of all their senders, else by arrival, else all at once.
-fn set_begins(parts: &mut Vec<Part<'_>>, reports: &[SenderReport]) {
+fn set_begins(parts: &mut Vec<Part<'_>>, reports: &BTreeMap<u32, SenderReport>) {
     let are_reported = parts
         .iter()
         .all(|part| reported(part.stream, reports).is_some());
@@ -88,96 +72,173 @@ fn set_begins(parts: &mut Vec<Part<'_>>, reports: &[SenderReport]) {
     }
 }
 
-/// How many ticks a unit is after the first, if another is so many after it and this has these 32 bits.
-fn next_ticks(previous: i64, from: u32, to: u32) -> i64 {
-    let ahead = to.wrapping_sub(from) as i64;
-    let behind = from.wrapping_sub(to) as i64;
-    if ahead <= behind {
-        previous.saturating_add(ahead)
-    } else {
-        previous.saturating_sub(behind)
+impl<'a> Lane<'a> {
+    /// The track of a part, with its first frame.
+    fn of(rt: &HostRuntime, part: &Part<'a>, number: u8, start: i64) -> io::Result<Lane<'a>> {
+        let mut lane = Lane {
+            stream: part.stream,
+            number,
+            units: part.stream.units.reader(rt)?,
+            offset: part.began.saturating_sub(start),
+            ticks: 0,
+            before: part.stream.units.first.unwrap_or(0),
+            turn: 0,
+            count: 0,
+            next: None,
+        };
+        lane.advance(rt.alloc())?;
+        Ok(lane)
     }
-}
 
-/// Adds the frames of a stream; returns when it ends, in milliseconds.
-fn push_frames(
-    alloc: Global,
-    part: &Part<'_>,
-    number: u8,
-    start: i64,
-    frames: &mut Vec<Frame>,
-) -> Result<u64, AllocError> {
-    let Some(first) = part.stream.units.first() else {
-        return Ok(0);
-    };
-    let rate = part.stream.row.rate.get();
-    let offset = part.began.saturating_sub(start);
-    let (mut ticks, mut before, mut turn, mut count) = (0i64, first.time, 0u64, 0u64);
-    for unit in &part.stream.units {
-        ticks = next_ticks(ticks, before, unit.time);
-        before = unit.time;
-        let since = microseconds(ticks, rate);
-        let time = u64::try_from(offset.saturating_add(since)).unwrap_or(0) / 1000;
-        turn = turn.max(time);
-        count = count.saturating_add(1);
-        frames.push(Frame {
-            track: number,
+    /// Reads the next frame.
+    fn advance(&mut self, alloc: Global) -> io::Result<()> {
+        let Some(unit) = self.units.next()? else {
+            self.next = None;
+            return Ok(());
+        };
+        let (codec, rate) = (self.stream.row.codec, self.stream.row.rate.get());
+        self.ticks = next_ticks(self.ticks, self.before, unit.time);
+        self.before = unit.time;
+        let since = microseconds(self.ticks, rate);
+        let time = u64::try_from(self.offset.saturating_add(since)).unwrap_or(0) / 1000;
+        self.turn = self.turn.max(time);
+        self.count = self.count.saturating_add(1);
+        self.next = Some(Frame {
             time,
-            turn,
-            is_key: is_key(part.stream, unit),
-            bytes: framed(alloc, part.stream, unit)?,
-        })?;
+            turn: self.turn,
+            is_key: unit.is_key,
+            bytes: framed(alloc, codec, unit.bytes)?,
+        });
+        Ok(())
     }
-    let begin = u64::try_from(offset).unwrap_or(0) / 1000;
-    let mean = turn
-        .saturating_sub(begin)
-        .checked_div(count.saturating_sub(1))
-        .unwrap_or(0);
-    Ok(turn.saturating_add(mean))
+
+    /// When it ends, in milliseconds: the last frame lasts as long as the others do on average.
+    fn end(&self) -> u64 {
+        let begin = u64::try_from(self.offset).unwrap_or(0) / 1000;
+        let mean = self
+            .turn
+            .saturating_sub(begin)
+            .checked_div(self.count.saturating_sub(1))
+            .unwrap_or(0);
+        self.turn.saturating_add(mean)
+    }
 }
 
-/// The bytes of a file of these tracks and frames.
-fn written(
+/// The track whose frame is next: the first of those with the least turn.
+fn next_lane(lanes: &[Lane<'_>]) -> Option<usize> {
+    let mut found: Option<(usize, u64)> = None;
+    for (place, lane) in lanes.iter().enumerate() {
+        let Some(frame) = &lane.next else {
+            continue;
+        };
+        match found {
+            Some((_, turn)) if turn <= frame.turn => {}
+            _ => found = Some((place, frame.turn)),
+        }
+    }
+    let (place, _) = found?;
+    Some(place)
+}
+
+/// A file that is written.
+#[derive(Clone, Copy)]
+struct Writing<'a> {
+    rt: &'a HostRuntime,
     alloc: Global,
-    parts: &[Part<'_>],
-    frames: &[Frame],
-    end: u64,
-) -> Result<Vec<u8>, RecordingError> {
-    let mut tracks = Vec::new(alloc);
-    for part in parts {
-        tracks.push(MkvTrack {
-            codec: part.track.codec,
-            private: part.track.private.as_slice(),
-            delay: part.track.delay,
-            preroll: part.track.preroll,
-            media: part.track.media,
-        })?;
+    parts: &'a [Part<'a>],
+    /// When the first of the parts began.
+    start: i64,
+}
+
+impl Writing<'_> {
+    /// The tracks, each with its first frame.
+    fn lanes(&self) -> io::Result<Vec<Lane<'_>>> {
+        let (mut lanes, mut number) = (Vec::new(self.alloc), 1u8);
+        for part in self.parts {
+            lanes.push(Lane::of(self.rt, part, number, self.start)?)?;
+            number = number.saturating_add(1);
+        }
+        Ok(lanes)
     }
-    let mut blocks = Vec::new(alloc);
-    for frame in frames {
-        blocks.push(MkvBlock {
-            track: frame.track,
-            time: frame.time,
-            is_key: frame.is_key,
-            bytes: frame.bytes.as_slice(),
-        })?;
+
+    /// Writes the clusters, if they are to be written; returns how many bytes they have, and when the file ends, in
+    /// milliseconds.
+    fn push_clusters(&self, output: &mut Output, is_written: bool) -> anyhow::Result<(u64, u64)> {
+        let mut lanes = self.lanes()?;
+        let (mut clusters, mut len, mut end) = (MkvClusters::new(self.alloc), 0u64, 0u64);
+        for _ in 0..u64::MAX {
+            let Some(place) = next_lane(&lanes) else {
+                break;
+            };
+            let Some(lane) = lanes.get_mut(place) else {
+                break;
+            };
+            if let Some(frame) = &lane.next {
+                let block = MkvBlock {
+                    track: lane.number,
+                    time: frame.time,
+                    is_key: frame.is_key,
+                    bytes: frame.bytes.as_slice(),
+                };
+                let before = output.waiting.len();
+                clusters.push(self.alloc, &block, &mut output.waiting)?;
+                len = len.saturating_add(output.waiting.len().saturating_sub(before) as u64);
+            }
+            lane.advance(self.alloc)?;
+            let_go(output, is_written)?;
+        }
+        for lane in &lanes {
+            end = end.max(lane.end());
+        }
+        let before = output.waiting.len();
+        clusters.finish(self.alloc, &mut output.waiting)?;
+        len = len.saturating_add(output.waiting.len().saturating_sub(before) as u64);
+        let_go(output, is_written)?;
+        Ok((len, end))
     }
-    mkv_file(alloc, end, &tracks, &blocks)
+
+    /// Writes the file.
+    fn write(&self, part: &str) -> anyhow::Result<Written> {
+        let mut output = Output::create(self.rt, part)?;
+        let (len, end) = self.push_clusters(&mut output, false)?;
+        let mut tracks = Vec::new(self.alloc);
+        for part in self.parts {
+            tracks.push(MkvTrack {
+                codec: part.track.codec,
+                private: part.track.private.as_slice(),
+                delay: part.track.delay,
+                preroll: part.track.preroll,
+                media: part.track.media,
+            })?;
+        }
+        push_mkv_front(self.alloc, end, &tracks, len, &mut output.waiting)?;
+        let _written = self.push_clusters(&mut output, true)?;
+        output.end()
+    }
+}
+
+/// Writes what waits if that is much; or forgets it if nothing is to be written.
+fn let_go(output: &mut Output, is_written: bool) -> io::Result<()> {
+    if is_written {
+        return output.flow();
+    }
+    output.waiting.clear();
+    Ok(())
 }
 
 /// The streams that have a track; the others are left out.
 fn parts_of<'a>(
     alloc: Global,
-    streams: &'a [Stream],
+    streams: &'a BTreeMap<u64, Stream>,
     left_out: &mut Vec<u32>,
 ) -> Result<Vec<Part<'a>>, AllocError> {
     let mut parts = Vec::new(alloc);
-    for stream in streams {
-        if stream.units.is_empty() || stream.is_encrypted {
+    for stream in streams.values() {
+        if stream.units.count == 0 || stream.is_encrypted {
             continue;
         }
         match track_of(alloc, stream)? {
-            Some(track) if parts.len() < 126 => parts.push(Part {
+            Some(track) if parts.len() < MOST_TRACKS => parts.push(Part {
                 stream,
                 track,
                 began: 0,
@@ -188,25 +249,33 @@ fn parts_of<'a>(
     Ok(parts)
 }
 
-/// The Matroska file of streams.
-pub(crate) fn recording_of(
-    alloc: Global,
-    streams: &[Stream],
-    reports: &[SenderReport],
-) -> Result<Matroska, RecordingError> {
+/// Writes the Matroska file of streams under this name.
+pub(crate) fn write_mkv(
+    rt: &HostRuntime,
+    streams: &BTreeMap<u64, Stream>,
+    reports: &BTreeMap<u32, SenderReport>,
+    name: &str,
+    is_forced: bool,
+) -> anyhow::Result<Matroska> {
+    let alloc = rt.alloc();
     let mut left_out = Vec::new(alloc);
     let mut parts = parts_of(alloc, streams, &mut left_out)?;
     set_begins(&mut parts, reports);
     let mut start = i64::MAX;
     for part in &parts {
         start = start.min(part.began);
+        if let Some(fault) = part.stream.units.fault() {
+            bail!("units couldn't be put away: {fault}")
+        }
     }
-    let (mut frames, mut end, mut number) = (Vec::new(alloc), 0u64, 1u8);
-    for part in &parts {
-        end = end.max(push_frames(alloc, part, number, start, &mut frames)?);
-        number = number.saturating_add(1);
-    }
-    frames.sort_by_key(|frame: &Frame| frame.turn)?;
-    let bytes = written(alloc, &parts, &frames, end)?;
-    Ok(Matroska { bytes, left_out })
+    let part = part_of(rt, name, is_forced)?;
+    let writing = Writing {
+        rt,
+        alloc,
+        parts: parts.as_slice(),
+        start,
+    };
+    let written = writing.write(&part);
+    let written = settle(rt, &part, name, written)?;
+    Ok(Matroska { written, left_out })
 }

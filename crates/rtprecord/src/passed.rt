@@ -8,7 +8,7 @@ pub(crate) struct PassedFragments {
     pub(crate) repeated: u64,
     /// Those of packets of which two fragments overlap.
     pub(crate) overlapping: u64,
-    /// Those that the capture cut, that are inside a tunnel, or that have no length a packet can have.
+    /// Those that the capture cut, or that have no length a packet can have.
     pub(crate) unreadable: u64,
 }
 

@@ -2,6 +2,7 @@
 
 use crate::input::Arrival;
 use crate::passed::{NOTHING, Passed, count};
+use crate::places::Index;
 use crate::reports::{SenderReport, sender_report};
 use crate::row::Row;
 use crate::rows::Rows;
@@ -14,6 +15,7 @@ use media_files::captures::{DatagramKind, PassedOver, kind_of, relayed_in};
 use payload_core::RedDecoder;
 use rtp_wire::{ExtensionMap, RtpHeader, unpad_payload};
 use std::alloc::{AllocError, Global};
+use std::collections::BTreeMap;
 
 /// How much is held and recorded.
 #[derive(Clone, Copy)]
@@ -21,6 +23,8 @@ pub(crate) struct Limits {
     pub(crate) hold_back: usize,
     pub(crate) held: usize,
     pub(crate) most_streams: usize,
+    /// Whether units are kept, or only counted.
+    pub(crate) is_kept: bool,
 }
 
 /// The streams of a capture.
@@ -32,14 +36,21 @@ pub(crate) struct Recorder {
     /// The ports from or to which datagrams are taken; all if there are none.
     ports: Vec<u16>,
     pub(crate) passed: Passed,
+    /// How many datagrams there were.
+    pub(crate) datagrams: u64,
     /// How many bytes at the ends of captures are no packet.
-    pub(crate) unread: usize,
-    pub(crate) sources: Vec<Source>,
-    pub(crate) streams: Vec<Stream>,
+    pub(crate) unread: u64,
+    /// The sources and the streams, by their numbers.
+    pub(crate) sources: BTreeMap<u64, Source>,
+    pub(crate) streams: BTreeMap<u64, Stream>,
+    pub(crate) source_index: Index,
+    pub(crate) stream_index: Index,
+    /// The folder of the units that are put away.
+    folder: String,
     /// What is seen without a row.
     pub(crate) seen: Vec<Seen>,
-    /// The first report of each sender.
-    pub(crate) reports: Vec<SenderReport>,
+    /// The first report of each sender, by its SSRC.
+    pub(crate) reports: BTreeMap<u32, SenderReport>,
     /// The ports with DTLS.
     pub(crate) secured: SecuredPorts,
 }
@@ -71,18 +82,28 @@ fn primary_of(payload: &[u8]) -> Option<(u8, &[u8])> {
 
 impl Recorder {
     /// A new recorder.
-    pub(crate) fn new(alloc: Global, rows: Rows, limits: Limits, ports: Vec<u16>) -> Recorder {
+    pub(crate) fn new(
+        alloc: Global,
+        rows: Rows,
+        limits: Limits,
+        ports: Vec<u16>,
+        folder: String,
+    ) -> Recorder {
         Recorder {
             alloc,
             rows,
             limits,
             ports,
             passed: NOTHING,
+            datagrams: 0,
             unread: 0,
-            sources: Vec::new(alloc),
-            streams: Vec::new(alloc),
+            sources: BTreeMap::new(alloc),
+            streams: BTreeMap::new(alloc),
+            source_index: Index::new(alloc),
+            stream_index: Index::new(alloc),
+            folder,
             seen: Vec::new(alloc),
-            reports: Vec::new(alloc),
+            reports: BTreeMap::new(alloc),
             secured: SecuredPorts::new(alloc),
         }
     }
@@ -98,12 +119,13 @@ impl Recorder {
     }
 
     /// Counts bytes at the end of a capture that are no packet.
-    pub(crate) fn leave(&mut self, len: usize) {
+    pub(crate) fn leave(&mut self, len: u64) {
         self.unread = self.unread.saturating_add(len);
     }
 
     /// Takes a datagram, or the one that it relays.
     pub(crate) fn take(&mut self, arrival: &Arrival<'_>) -> Result<(), AllocError> {
+        count(&mut self.datagrams);
         if !arrival.is_at(&self.ports) {
             count(&mut self.passed.elsewhere);
             return Ok(());
@@ -140,9 +162,9 @@ impl Recorder {
         let Some(report) = sender_report(datagram) else {
             return Ok(());
         };
-        let is_known = self.reports.iter().any(|known| known.ssrc == report.ssrc);
+        let is_known = self.reports.contains_key(&report.ssrc);
         if !is_known && self.reports.len() < self.limits.most_streams {
-            self.reports.push(report)?;
+            self.reports.insert(report.ssrc, report)?;
         }
         Ok(())
     }
@@ -182,7 +204,7 @@ impl Recorder {
             count(&mut self.passed.too_many);
             return Ok(());
         };
-        let Some(source) = self.sources.get_mut(place) else {
+        let Some(source) = self.sources.get_mut(&place) else {
             return Ok(());
         };
         let Some(seq_no) = source.receive(arrival.bytes) else {
@@ -210,7 +232,7 @@ impl Recorder {
     /// Takes the payload of a packet of a source: of redundant audio the primary block.
     pub(crate) fn take_payload(
         &mut self,
-        place: usize,
+        place: u64,
         row: Row,
         taken: &Taken<'_>,
         payload: &[u8],
@@ -220,16 +242,15 @@ impl Recorder {
         } else {
             Some((row, payload))
         };
-        let (Some((row, payload)), Some(source)) = (found, self.sources.get_mut(place)) else {
+        let (Some((row, payload)), Some(source)) = (found, self.sources.get_mut(&place)) else {
             return Ok(self.damage(place));
         };
-        let ssrc = source.ssrc;
         source.note_type(row.pt);
-        let Some(place) = self.stream_place(ssrc, taken.port, row)? else {
+        let Some(place) = self.stream_place(place, row)? else {
             count(&mut self.passed.too_many);
             return Ok(());
         };
-        if let Some(stream) = self.streams.get_mut(place) {
+        if let Some(stream) = self.streams.get_mut(&place) {
             stream.arrive(taken.time, taken.header.timestamp);
             stream.first_bytes.note(taken.ports, payload);
             stream.push(taken.seq_no, taken.header, payload);
@@ -238,16 +259,35 @@ impl Recorder {
     }
 
     /// Counts a packet of a source that can't be read.
-    fn damage(&mut self, place: usize) {
-        if let Some(source) = self.sources.get_mut(place) {
+    fn damage(&mut self, place: u64) {
+        if let Some(source) = self.sources.get_mut(&place) {
             count(&mut source.damaged);
+        }
+    }
+
+    /// Puts away what streams have in memory, if that is much.
+    pub(crate) fn put_away(&mut self, rt: &HostRuntime) -> Result<(), AllocError> {
+        for (number, stream) in self.streams.iter_mut() {
+            if stream.units.are_many() {
+                let folder = self.folder.as_str();
+                let name = format!(in self.alloc; "{folder}/rtprecord.{number}.units.part")?;
+                stream.units.put_away(rt, name);
+            }
+        }
+        Ok(())
+    }
+
+    /// Removes what was put away.
+    pub(crate) fn remove_units(&mut self, rt: &HostRuntime) {
+        for stream in self.streams.values_mut() {
+            stream.units.remove(rt);
         }
     }
 
     /// Hands out what is left, if nothing more will come, and tells which streams are encrypted.
     pub(crate) fn finish(&mut self) {
         let is_secure = self.rows.is_secure;
-        for stream in &mut self.streams {
+        for stream in self.streams.values_mut() {
             stream.drain();
             let codec = stream.row.codec;
             stream.is_encrypted = stream

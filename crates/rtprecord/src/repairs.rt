@@ -32,7 +32,7 @@ impl Recorder {
             count(&mut self.passed.strange_repairs);
             return Ok(());
         };
-        let Some(source) = self.sources.get_mut(place) else {
+        let Some(source) = self.sources.get_mut(&place) else {
             return Ok(());
         };
         let Some(seq_no) = source.receive_repaired(low) else {
@@ -50,21 +50,21 @@ impl Recorder {
 
     /// Where the source is that these are the repairs of: the one that a text groups them with, else the only one
     /// with this type, else the only one of these that misses the number.
-    fn repaired_place(&self, ssrc: Ssrc, port: Option<u16>, pt: u8, low: u16) -> Option<usize> {
+    fn repaired_place(&self, ssrc: Ssrc, port: Option<u16>, pt: u8, low: u16) -> Option<u64> {
         let grouped = self.rows.repaired_by(ssrc.get());
         let mut with_type = Found::None;
         let mut missing = Found::None;
-        for (place, source) in self.sources.iter().enumerate() {
+        for (place, source) in self.sources.iter() {
             if source.port != port {
                 continue;
             }
             if grouped == Some(source.ssrc.get()) {
-                return Some(place);
+                return Some(*place);
             }
             if grouped.is_none() && source.has_type(pt) {
-                with_type = with_type.and(place);
+                with_type = with_type.and(*place);
                 if source.misses(low) {
-                    missing = missing.and(place);
+                    missing = missing.and(*place);
                 }
             }
         }

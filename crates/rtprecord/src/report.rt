@@ -1,17 +1,16 @@
 //! The list of the streams, and their files.
 
 use crate::arguments::Arguments;
-use crate::files::{ending_of, file_of};
+use crate::files::{ending_of, write_file};
 use crate::gaps::Silence;
-use crate::matroska::recording_of;
+use crate::matroska::write_mkv;
 use crate::passed::PassedFragments;
 use crate::recorder::Recorder;
 use crate::seen::Seen;
 use crate::source::Source;
 use crate::stream::Stream;
-use crate::writing::{sum_of, write_whole};
 use std::alloc::{AllocError, Global};
-use std::{fs, io};
+use std::io;
 
 /// The name of a stream's file, without its folder: its SSRC, the port if it is meant for one alone, and its type.
 fn name_of(alloc: Global, stream: &Stream, ending: &str) -> Result<String, AllocError> {
@@ -22,32 +21,13 @@ fn name_of(alloc: Global, stream: &Stream, ending: &str) -> Result<String, Alloc
     }
 }
 
-/// Writes the file of a stream, and prints its name, length and sum.
-fn write_file(
-    rt: &HostRuntime,
-    stream: &Stream,
-    name: &str,
-    silence: &mut Silence,
-    is_forced: bool,
-) -> anyhow::Result<()> {
-    let Some(bytes) = file_of(rt.alloc(), stream, silence)? else {
-        return Ok(());
-    };
-    write_whole(rt, name, &bytes, is_forced)?;
-    let (len, sum) = (bytes.len(), sum_of(rt, &bytes)?);
-    println!(*rt; "    {name}: {len} bytes, SHA-256 {sum}")?;
-    Ok(())
-}
-
 /// How many milliseconds lie between the first unit and the last.
 fn duration(stream: &Stream) -> u64 {
-    match (stream.units.first(), stream.units.last()) {
-        (Some(first), Some(last)) => {
-            let ticks = last.time.wrapping_sub(first.time) as u64;
-            ticks.saturating_mul(1000) / stream.row.rate.get() as u64
-        }
-        _ => 0,
-    }
+    let Some(first) = stream.units.first else {
+        return 0;
+    };
+    let ticks = stream.units.last.wrapping_sub(first) as u64;
+    ticks.saturating_mul(1000) / stream.row.rate.get() as u64
 }
 
 /// Prints what came of an SSRC.
@@ -65,7 +45,7 @@ fn print_source(rt: &HostRuntime, source: &Source) -> io::Result<()> {
 
 /// Prints what came of a stream.
 fn print_counts(rt: &HostRuntime, stream: &Stream) -> io::Result<()> {
-    let (row, units) = (stream.row, stream.units.len());
+    let (row, units) = (stream.row, stream.units.count);
     println!(*rt;
         "  type {} {}/{}: {} datagrams, {units} units, {} keyframes, {} unreadable, {} ms",
         row.pt,
@@ -108,7 +88,7 @@ fn print_stream(
         println!(*rt; "    no file: its payloads are encrypted")?;
         return Ok(!stream.is_cut);
     }
-    if arguments.is_list || stream.units.is_empty() {
+    if arguments.is_list || stream.units.count == 0 {
         return Ok(!stream.is_cut);
     }
     let Some(ending) = ending_of(stream.row.codec) else {
@@ -117,11 +97,17 @@ fn print_stream(
     };
     let (out, name) = (arguments.out.as_str(), name_of(rt.alloc(), stream, ending)?);
     let name = format!(in rt.alloc(); "{out}/{name}")?;
-    if let Err(fault) = write_file(rt, stream, &name, silence, arguments.is_forced) {
-        println!(*rt; "    no file {name}: {fault:#}")?;
-        return Ok(false);
+    match write_file(rt, stream, &name, silence, arguments.is_forced) {
+        Ok(written) => {
+            let (len, sum) = (written.len, written.sum);
+            println!(*rt; "    {name}: {len} bytes, SHA-256 {sum}")?;
+            Ok(!stream.is_cut)
+        }
+        Err(fault) => {
+            println!(*rt; "    no file {name}: {fault:#}")?;
+            Ok(false)
+        }
     }
-    Ok(!stream.is_cut)
 }
 
 /// Writes the Matroska file of all streams, if it is asked for; returns whether that is as it should be.
@@ -129,11 +115,22 @@ fn print_mkv(rt: &HostRuntime, recorder: &Recorder, arguments: &Arguments) -> an
     let Some(name) = &arguments.mkv else {
         return Ok(true);
     };
-    if arguments.is_list || recorder.streams.iter().all(|stream| stream.is_encrypted) {
+    if arguments.is_list || recorder.streams.values().all(|stream| stream.is_encrypted) {
         return Ok(true);
     }
-    match write_mkv(rt, recorder, name, arguments.is_forced) {
-        Ok(()) => Ok(true),
+    match write_mkv(
+        rt,
+        &recorder.streams,
+        &recorder.reports,
+        name,
+        arguments.is_forced,
+    ) {
+        Ok(file) => {
+            let (len, sum) = (file.written.len, file.written.sum);
+            println!(*rt; "{name}: {len} bytes, SHA-256 {sum}")?;
+            print_left_out(rt, &file.left_out)?;
+            Ok(true)
+        }
         Err(fault) => {
             println!(*rt; "no file {name}: {fault:#}")?;
             Ok(false)
@@ -141,18 +138,9 @@ fn print_mkv(rt: &HostRuntime, recorder: &Recorder, arguments: &Arguments) -> an
     }
 }
 
-/// Writes the Matroska file of all streams, and prints its length and sum.
-fn write_mkv(
-    rt: &HostRuntime,
-    recorder: &Recorder,
-    name: &str,
-    is_forced: bool,
-) -> anyhow::Result<()> {
-    let file = recording_of(rt.alloc(), &recorder.streams, &recorder.reports)?;
-    write_whole(rt, name, &file.bytes, is_forced)?;
-    let (len, sum) = (file.bytes.len(), sum_of(rt, &file.bytes)?);
-    println!(*rt; "{name}: {len} bytes, SHA-256 {sum}")?;
-    for ssrc in &file.left_out {
+/// Prints which streams have no track.
+fn print_left_out(rt: &HostRuntime, left_out: &[u32]) -> io::Result<()> {
+    for ssrc in left_out {
         println!(*rt;
             "  without SSRC {ssrc:08x}: its codec has no track, or its units lack what a track needs"
         )?;
@@ -176,7 +164,7 @@ fn print_seen(rt: &HostRuntime, seen: &[Seen]) -> io::Result<()> {
 /// Prints which fragments no datagram came of.
 fn print_fragments(rt: &HostRuntime, fragments: PassedFragments) -> io::Result<()> {
     println!(*rt;
-        "fragments passed over: {} without others, {} repeated, {} overlapping, {} cut or inside a tunnel",
+        "fragments passed over: {} without others, {} repeated, {} overlapping, {} cut",
         fragments.alone, fragments.repeated, fragments.overlapping, fragments.unreadable
     )
 }
@@ -224,11 +212,11 @@ fn print_passed(rt: &HostRuntime, recorder: &Recorder) -> io::Result<()> {
 /// Whether nearly everything is unreadable, as encrypted media is.
 fn is_unreadable(recorder: &Recorder) -> bool {
     let (mut bad, mut all) = (0u64, 0u64);
-    for source in &recorder.sources {
+    for source in recorder.sources.values() {
         bad = bad.saturating_add(source.damaged);
         all = all.saturating_add(source.taken);
     }
-    for stream in &recorder.streams {
+    for stream in recorder.streams.values() {
         bad = bad.saturating_add(stream.faults);
     }
     all > 0 && bad.saturating_mul(10) >= all.saturating_mul(9)
@@ -237,7 +225,7 @@ fn is_unreadable(recorder: &Recorder) -> bool {
 /// Says which streams are encrypted, or that nearly nothing can be read.
 fn tell_unreadable(rt: &HostRuntime, recorder: &Recorder) -> io::Result<()> {
     let is_encrypted = |stream: &&Stream| stream.is_encrypted;
-    let encrypted = recorder.streams.iter().filter(is_encrypted).count();
+    let encrypted = recorder.streams.values().filter(is_encrypted).count();
     if encrypted > 0 {
         return eprintln!(*rt;
             "rtprecord: encrypted streams, of which no file is written: {encrypted}"
@@ -257,15 +245,12 @@ pub(crate) fn print(
     recorder: &Recorder,
     arguments: &Arguments,
 ) -> anyhow::Result<bool> {
-    if !arguments.is_list {
-        fs::create_dir_all(rt, arguments.out.as_str())?;
-    }
     let mut silence = Silence::of(arguments.longest_gap, arguments.most_silence);
     let mut is_whole = true;
-    for source in &recorder.sources {
+    for source in recorder.sources.values() {
         print_source(rt, source)?;
-        for stream in &recorder.streams {
-            if stream.ssrc == source.ssrc && stream.port == source.port {
+        for (number, _) in &source.streams {
+            if let Some(stream) = recorder.streams.get(number) {
                 is_whole = print_stream(rt, stream, arguments, &mut silence)? && is_whole;
             }
         }

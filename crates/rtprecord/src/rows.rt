@@ -3,11 +3,11 @@
 use crate::arguments::Arguments;
 use crate::row::Row;
 use crate::sections::{
-    MediaHead, Ports, SessionText, any_begins, as_browsers_write, cut, head_of, is_refused,
-    ports_of, repaired_pair,
+    MediaHead, Ports, SectionFault, SessionText, any_begins, as_browsers_write, cut, head_of,
+    is_refused, ports_of, repaired_pair,
 };
 use anyhow::bail;
-use sdp_formats::{RtpParams, SdpError, SdpOffer};
+use sdp_formats::{RtpParams, SdpError, SdpOffer, faulty_line};
 use std::alloc::{AllocError, Global};
 use std::{fs, io};
 
@@ -155,18 +155,18 @@ impl Rows {
         alloc: Global,
         session: &[&str],
         section: &[&str],
-    ) -> anyhow::Result<Option<&'static str>> {
+    ) -> anyhow::Result<Option<SectionFault>> {
         let Some(head) = section.first().and_then(|line| head_of(*line)) else {
-            return Ok(Some("its line can't be read"));
+            return Ok(Some(SectionFault::LineUnread));
         };
         if head.kind == "application" || is_refused(&head, session, section) {
             return Ok(None);
         }
         if !head.is_media() {
-            return Ok(Some("it is of neither audio nor video"));
+            return Ok(Some(SectionFault::NoMedia));
         }
         if !head.is_rtp() {
-            return Ok(Some("its profile isn't RTP over UDP"));
+            return Ok(Some(SectionFault::NotRtp));
         }
         self.take_media(alloc, &head, session, section)
     }
@@ -178,7 +178,7 @@ impl Rows {
         head: &MediaHead<'_>,
         session: &[&str],
         section: &[&str],
-    ) -> anyhow::Result<Option<&'static str>> {
+    ) -> anyhow::Result<Option<SectionFault>> {
         if head.is_secure() || any_begins(section, "a=fingerprint:") {
             self.is_secure = true;
         }
@@ -187,9 +187,9 @@ impl Rows {
         let ports = ports_of(head, session, section);
         match self.take_rows(alloc, &text, ports) {
             Ok(true) => Ok(None),
-            Ok(false) => Ok(Some("none of its payload types is known")),
+            Ok(false) => Ok(Some(SectionFault::NoneKnown)),
             Err(SdpError::Memory) => bail!("out of memory"),
-            Err(_) => Ok(Some("its payload types can't be read")),
+            Err(_) => Ok(Some(fault_of(alloc, &text)?)),
         }
     }
 
@@ -203,13 +203,18 @@ impl Rows {
         let Some((session, sections)) = text.parts.split_first() else {
             return Ok(());
         };
+        let session = session.lines.as_slice();
         if any_begins(session, "a=fingerprint:") {
             self.is_secure = true;
         }
         for section in sections {
-            let why = self.take_section(rt.alloc(), session, section)?;
-            if let (Some(why), Some(line)) = (why, section.first()) {
-                eprintln!(*rt; "rtprecord: {name}: a section is passed over, as {why}: {line}")?;
+            let lines = section.lines.as_slice();
+            let why = self.take_section(rt.alloc(), session, lines)?;
+            if let (Some(why), Some(line)) = (why, lines.first()) {
+                let number = section.number;
+                eprintln!(*rt;
+                    "rtprecord: {name}: line {number}: a section is passed over, as {why}: {line}"
+                )?;
             }
         }
         Ok(())
@@ -226,6 +231,14 @@ impl Rows {
         };
         tell_passed_over(rt, name, text.passed_over)?;
         self.take_sections(rt, name, &text)
+    }
+}
+
+/// What is wrong with a section whose payload types can't be read.
+fn fault_of(alloc: Global, text: &str) -> Result<SectionFault, AllocError> {
+    match faulty_line(alloc, text)? {
+        Some(line) => Ok(SectionFault::Faulty(line.fault)),
+        None => Ok(SectionFault::TypesUnread),
     }
 }
 

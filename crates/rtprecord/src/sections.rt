@@ -1,17 +1,45 @@
 //! Session texts as they are found: their sections of audio and video over RTP, whatever profile carries them.
 
+use sdp_formats::LineFault;
 use std::alloc::{AllocError, Global};
+use thiserror::Error;
 
 // The port that a text names if the port isn't known yet (RFC 8829 5.2.1).
 const DISCARD: u16 = 9;
+
+/// The session, or a section, of a session text.
+#[derive(Drop)]
+pub(crate) struct Part<'a> {
+    /// The number of its first line in the text, counted from 1.
+    pub(crate) number: usize,
+    /// Its lines, of a section from its line `m=` on.
+    pub(crate) lines: Vec<&'a str>,
+}
 
 /// A session text, cut into its sections.
 #[derive(Drop)]
 pub(crate) struct SessionText<'a> {
     /// How many lines are before the line `v=`, as what a program prints with it.
     pub(crate) passed_over: usize,
-    /// The lines of the session, then those of each section, from its line `m=` on.
-    pub(crate) parts: Vec<Vec<&'a str>>,
+    /// The session, then each section.
+    pub(crate) parts: Vec<Part<'a>>,
+}
+
+/// Why a section is passed over.
+#[derive(Clone, Copy, Debug, Drop, Error)]
+pub(crate) enum SectionFault {
+    #[error("its line can't be read")]
+    LineUnread,
+    #[error("it is of neither audio nor video")]
+    NoMedia,
+    #[error("its profile isn't RTP over UDP")]
+    NotRtp,
+    #[error("none of its payload types is known")]
+    NoneKnown,
+    #[error("its payload types can't be read")]
+    TypesUnread,
+    #[error("it is {0}")]
+    Faulty(LineFault),
 }
 
 /// What a line `m=` says (RFC 8866 5.14).
@@ -46,8 +74,8 @@ impl Ports {
 /// Cuts a text into its sections; None if no line begins with `v=`.
 pub(crate) fn cut<'a>(alloc: Global, text: &'a str) -> Result<Option<SessionText<'a>>, AllocError> {
     let mut passed_over = 0usize;
-    let mut parts: Vec<Vec<&'a str>> = Vec::new(alloc);
-    for line in text.lines() {
+    let mut parts: Vec<Part<'a>> = Vec::new(alloc);
+    for (before, line) in text.lines().enumerate() {
         let line = line.trim();
         let is_first = parts.is_empty();
         if is_first && !line.starts_with("v=") {
@@ -55,10 +83,12 @@ pub(crate) fn cut<'a>(alloc: Global, text: &'a str) -> Result<Option<SessionText
             continue;
         }
         if is_first || line.starts_with("m=") {
-            parts.push(Vec::new(alloc))?;
+            let number = before.saturating_add(1);
+            let lines = Vec::new(alloc);
+            parts.push(Part { number, lines })?;
         }
         if let Some(part) = parts.last_mut() {
-            part.push(line)?;
+            part.lines.push(line)?;
         }
     }
     if parts.is_empty() {
@@ -122,9 +152,12 @@ pub(crate) fn ports_of(head: &MediaHead<'_>, session: &[&str], section: &[&str])
     })
 }
 
-/// Whether a section is refused: its port is 0, and nothing says how it is asked for (RFC 3264 6, RFC 7826 4.3).
+/// Whether a section is refused: its port is 0, it isn't offered in a bundle only, and nothing says how it is asked for
+/// (RFC 3264 6, RFC 9143 6, RFC 7826 4.3).
 pub(crate) fn is_refused(head: &MediaHead<'_>, session: &[&str], section: &[&str]) -> bool {
-    head.port == 0 && !any_begins(session, "a=control:") && !any_begins(section, "a=control:")
+    let is_asked_for = any_begins(session, "a=control:") || any_begins(section, "a=control:");
+    let is_bundle_only = section.iter().any(|line| *line == "a=bundle-only");
+    head.port == 0 && !is_asked_for && !is_bundle_only
 }
 
 /// Whether a payload type is static, and known (RFC 3551 6).

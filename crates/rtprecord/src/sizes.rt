@@ -62,7 +62,7 @@ pub(crate) fn is_vp9_key(frame: &[u8]) -> bool {
 }
 
 /// A NAL unit without the bytes that keep start codes out of it (H.264 7.4.1).
-fn without_emulation(alloc: Global, unit: &[u8]) -> Result<Vec<u8>, AllocError> {
+pub(crate) fn without_emulation(alloc: Global, unit: &[u8]) -> Result<Vec<u8>, AllocError> {
     let mut bytes = Vec::new(alloc);
     let mut zeros = 0u8;
     for byte in unit {
@@ -180,7 +180,7 @@ fn sps_size(bytes: &[u8]) -> Option<Size> {
 }
 
 /// How much of a picture is cut off, left and right, and above and below.
-fn cropped(bits: &mut Bits<'_>) -> Option<Size> {
+pub(crate) fn cropped(bits: &mut Bits<'_>) -> Option<Size> {
     if !bits.flag()? {
         return Some((0, 0));
     }

@@ -2,6 +2,7 @@
 
 use h26x_payload::SeqNo;
 use rtp_wire::{ExtensionMap, Reception, SeqNoWindow, Ssrc, extend_u16, receive_one};
+use std::alloc::Global;
 
 /// An SSRC: packets of all its payload types share one sequence.
 #[derive(Drop)]
@@ -14,6 +15,8 @@ pub(crate) struct Source {
     greatest: u64,
     /// The payload types that its packets have had.
     types: [bool; 128],
+    /// The numbers and types of its streams.
+    pub(crate) streams: Vec<(u64, u8)>,
     /// Packets that were taken.
     pub(crate) taken: u64,
     /// Those of them that came as repairs.
@@ -28,7 +31,7 @@ pub(crate) struct Source {
 
 impl Source {
     /// A source of which nothing came.
-    pub(crate) fn new(ssrc: Ssrc, port: Option<u16>) -> Source {
+    pub(crate) fn new(alloc: Global, ssrc: Ssrc, port: Option<u16>) -> Source {
         Source {
             ssrc,
             port,
@@ -36,6 +39,7 @@ impl Source {
             lowest: u64::MAX,
             greatest: 0,
             types: [false; 128],
+            streams: Vec::new(alloc),
             taken: 0,
             repaired: 0,
             late: 0,

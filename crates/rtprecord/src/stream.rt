@@ -1,29 +1,39 @@
 //! A stream of a capture: what its datagrams become.
 
+use crate::heads::Heads;
 use crate::layers::Layers;
+use crate::recorder::Limits;
 use crate::row::Row;
 use crate::secrecy::FirstBytes;
+use crate::sizes::is_vp9_key;
+use crate::units::Units;
 use h26x_payload::{
-    Codec, CodecDepacketizer, CodecExtra, Depacketized, DepacketizingBuffer, NotBoxed, PacketError,
-    RtpMeta, SeqNo, may_hold,
+    Codec, CodecDepacketizer, CodecExtra, DepacketizingBuffer, NotBoxed, PacketError, RtpMeta,
+    SeqNo, may_hold,
 };
 use media_files::push_superframe_index;
+use payload_core_buffer::Unit;
 use rtp_wire::{RtpHeader, Ssrc};
 use std::alloc::{AllocError, Global};
+use stream_recording::{record_packet, record_rest};
 
-/// A unit of a stream.
-#[derive(Drop)]
-pub(crate) struct Unit {
-    pub(crate) time: u32,
-    /// Whether it is told to be a key frame.
-    pub(crate) is_key: bool,
-    pub(crate) bytes: Vec<u8>,
+/// Which stream it is.
+#[derive(Clone, Copy)]
+pub(crate) struct StreamKind {
+    /// The number of its source.
+    pub(crate) source: u64,
+    pub(crate) ssrc: Ssrc,
+    /// The port of its source.
+    pub(crate) port: Option<u16>,
+    pub(crate) row: Row,
 }
 
 /// The packets of an SSRC and a row, and the units that they are.
 #[derive(Drop)]
 pub(crate) struct Stream {
     alloc: Global,
+    /// The number of its source.
+    pub(crate) source: u64,
     pub(crate) ssrc: Ssrc,
     /// The port of its source.
     pub(crate) port: Option<u16>,
@@ -32,7 +42,9 @@ pub(crate) struct Stream {
     /// Frames that can't be read.
     pub(crate) faults: u64,
     pub(crate) keyframes: u64,
-    pub(crate) units: Vec<Unit>,
+    pub(crate) units: Units,
+    /// What a file of several streams needs of its units.
+    pub(crate) heads: Heads,
     /// Whether memory ran out for its units, and the later ones are left out.
     pub(crate) is_cut: bool,
     /// When its first packet came, in microseconds, and that packet's time.
@@ -60,34 +72,29 @@ fn is_keyframe(extra: CodecExtra) -> bool {
 
 impl Stream {
     /// A stream of which nothing came; None if its codec has no payload format, or this many packets may not be held.
-    pub(crate) fn new(
-        alloc: Global,
-        ssrc: Ssrc,
-        port: Option<u16>,
-        row: Row,
-        hold_back: usize,
-        held: usize,
-    ) -> Option<Stream> {
-        if !may_hold(held) {
+    pub(crate) fn new(alloc: Global, kind: StreamKind, limits: Limits) -> Option<Stream> {
+        if !may_hold(limits.held) {
             return None;
         }
-        let depacketizer = row.depacketizer(alloc)?;
+        let depacketizer = kind.row.depacketizer(alloc)?;
         Some(Stream {
             alloc,
-            ssrc,
-            port,
-            row,
+            source: kind.source,
+            ssrc: kind.ssrc,
+            port: kind.port,
+            row: kind.row,
             datagrams: 0,
             faults: 0,
             keyframes: 0,
-            units: Vec::new(alloc),
+            units: Units::new(alloc, limits.is_kept),
+            heads: Heads::new(alloc),
             is_cut: false,
             began: None,
             ended: None,
             first_bytes: FirstBytes::new(),
             is_encrypted: false,
             layers: Layers::new(alloc),
-            buffer: DepacketizingBuffer::new(alloc, depacketizer, hold_back, held),
+            buffer: DepacketizingBuffer::new(alloc, depacketizer, limits.hold_back, limits.held),
         })
     }
 
@@ -122,59 +129,56 @@ impl Stream {
             ext_vals: header.ext_vals,
         };
         self.note_layer(seq_no, payload);
-        if self.buffer.push(meta, payload).is_err() {
-            self.is_cut = true;
-        }
-        for _ in 0..u32::MAX {
-            let popped = self.buffer.pop();
-            if !self.keep(popped) {
-                break;
-            }
-        }
+        let mut recorded = Vec::new(self.alloc);
+        let taken = record_packet(&mut self.buffer, meta, payload, &mut recorded);
+        self.keep(recorded);
+        self.is_cut |= taken.is_err();
     }
 
     /// Keeps the units that are left, if nothing more will come.
     pub(crate) fn drain(&mut self) {
-        for _ in 0..u32::MAX {
-            let popped = self.buffer.drain();
-            if !self.keep(popped) {
-                break;
-            }
+        if self.is_cut {
+            return;
         }
+        let mut recorded = Vec::new(self.alloc);
+        let taken = record_rest(&mut self.buffer, &mut recorded);
+        self.keep(recorded);
+        self.is_cut |= taken.is_err();
     }
 
-    /// Keeps what the buffer handed out; returns whether more may follow.
-    fn keep(&mut self, popped: Result<Option<Depacketized>, PacketError>) -> bool {
-        match popped {
-            Ok(Some(unit)) => {
-                if self.keep_unit(unit).is_err() {
-                    self.is_cut = true;
+    /// Keeps what frames became.
+    fn keep(&mut self, recorded: Vec<Result<Unit, PacketError>>) {
+        for outcome in recorded {
+            match outcome {
+                Ok(unit) => {
+                    if !self.is_cut && self.keep_unit(unit).is_err() {
+                        self.is_cut = true;
+                    }
                 }
+                Err(_) => self.faults = self.faults.saturating_add(1),
             }
-            Ok(None) => return false,
-            Err(PacketError::Memory) => self.is_cut = true,
-            Err(_) => self.faults = self.faults.saturating_add(1),
         }
-        !self.is_cut
     }
 
     /// Keeps a unit.
-    fn keep_unit(&mut self, unit: Depacketized) -> Result<(), AllocError> {
-        if is_keyframe(unit.extra) {
+    fn keep_unit(&mut self, unit: Unit) -> Result<(), AllocError> {
+        let (time, is_told) = (unit.time(), is_keyframe(unit.extra()));
+        if is_told {
             self.keyframes = self.keyframes.saturating_add(1);
         }
-        let (time, is_key) = (unit.time(), is_keyframe(unit.extra));
         let mut sizes = Vec::new(self.alloc);
-        self.layers.take(unit.meta(), &mut sizes)?;
-        let mut bytes = unit.bytes;
-        if self.row.codec == Codec::Vp9 {
+        self.layers
+            .take(unit.first().get(), unit.last().get(), &mut sizes)?;
+        let mut bytes = unit.into_bytes();
+        let codec = self.row.codec;
+        if codec == Codec::Vp9 {
             push_superframe_index(&sizes, &mut bytes)?;
         }
-        self.units.push(Unit {
-            time,
-            is_key,
-            bytes,
-        })?;
-        Ok(())
+        self.heads.note(self.alloc, codec, &bytes)?;
+        let is_key = match codec {
+            Codec::Vp9 => is_vp9_key(&bytes),
+            codec => codec.is_audio() || is_told,
+        };
+        self.units.push(time, is_key, &bytes)
     }
 }

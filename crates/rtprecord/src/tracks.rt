@@ -1,9 +1,9 @@
 //! The tracks that streams become in a Matroska file.
 
-use crate::av1::sequence_in;
 use crate::files::PRE_SKIP;
-use crate::sizes::{Size, h264_size, is_vp9_key, vp8_size, vp9_size};
-use crate::stream::{Stream, Unit};
+use crate::heads::Heads;
+use crate::sizes::Size;
+use crate::stream::Stream;
 use h26x_payload::{Codec, nal_units};
 use media_files::{MkvCodec, MkvMedia};
 use std::alloc::{AllocError, Global};
@@ -32,53 +32,6 @@ impl Track {
     }
 }
 
-/// The size in the first key frame of VP8.
-fn first_vp8_size(units: &[Unit]) -> Option<Size> {
-    for unit in units {
-        if let Some(size) = vp8_size(&unit.bytes) {
-            return Some(size);
-        }
-    }
-    None
-}
-
-/// The size in the first key frame of VP9.
-fn first_vp9_size(units: &[Unit]) -> Option<Size> {
-    for unit in units {
-        if let Some(size) = vp9_size(&unit.bytes) {
-            return Some(size);
-        }
-    }
-    None
-}
-
-/// The track of AV1: what its first sequence header says, and that header (AV1 codec ISO media file format binding
-/// 2.3).
-fn av1_track(alloc: Global, units: &[Unit]) -> Result<Option<Track>, AllocError> {
-    for unit in units {
-        if let Some((header, sequence)) = sequence_in(&unit.bytes) {
-            let mut private = Vec::from_slice(alloc, &sequence.told)?;
-            private.extend_from_slice(header)?;
-            return Ok(Some(Track::of_pictures(MkvCodec::Av1, sequence.size, private)));
-        }
-    }
-    Ok(None)
-}
-
-/// The first NAL unit of a type (H.264 7.4.1).
-fn first_of_type(units: &[Unit], kind: u8) -> Option<&[u8]> {
-    for unit in units {
-        for nal in nal_units(&unit.bytes) {
-            if let Some(first) = nal.first() {
-                if *first % 32 == kind {
-                    return Some(nal);
-                }
-            }
-        }
-    }
-    None
-}
-
 /// Writes a parameter set after its length.
 fn push_set(set: &[u8], out: &mut Vec<u8>) -> Result<(), AllocError> {
     let len = u16::try_from(set.len()).unwrap_or(u16::MAX);
@@ -87,20 +40,32 @@ fn push_set(set: &[u8], out: &mut Vec<u8>) -> Result<(), AllocError> {
 }
 
 /// The track of H.264: what its first parameter sets say, and these (ISO/IEC 14496-15 5.3.3).
-fn h264_track(alloc: Global, units: &[Unit]) -> Result<Option<Track>, AllocError> {
-    let (Some(sps), Some(pps)) = (first_of_type(units, 7), first_of_type(units, 8)) else {
+fn h264_track(alloc: Global, heads: &Heads) -> Result<Option<Track>, AllocError> {
+    let (Some(profile), Some(size)) = (heads.sps.get(1..4), heads.size) else {
         return Ok(None);
     };
-    let (Some(profile), Some(size)) = (sps.get(1..4), h264_size(alloc, sps)?) else {
+    if heads.pps.is_empty() {
         return Ok(None);
-    };
+    }
     let mut private = Vec::from_slice(alloc, &[1u8])?;
     private.extend_from_slice(profile)?;
     private.extend_from_slice(&[0xffu8, 0xe1])?;
-    push_set(sps, &mut private)?;
+    push_set(&heads.sps, &mut private)?;
     private.push(1)?;
-    push_set(pps, &mut private)?;
+    push_set(&heads.pps, &mut private)?;
     Ok(Some(Track::of_pictures(MkvCodec::Avc, size, private)))
+}
+
+/// The track of H.265: what its first parameter sets say, and these.
+fn h265_track(alloc: Global, heads: &Heads) -> Result<Option<Track>, AllocError> {
+    let Some(sequence) = heads.hevc else {
+        return Ok(None);
+    };
+    if heads.vps.is_empty() || heads.pps.is_empty() {
+        return Ok(None);
+    }
+    let private = sequence.told(alloc, [&heads.vps, &heads.sps, &heads.pps])?;
+    Ok(Some(Track::of_pictures(MkvCodec::Hevc, sequence.size, private)))
 }
 
 /// The track of Opus, whose private data is the header of a file (RFC 7845 5.1).
@@ -137,22 +102,20 @@ fn sound_track(alloc: Global, tag: u16, rate: u32, bits: u16) -> Result<Track, A
     })
 }
 
+/// A track of pictures whose size is known.
+fn pictures(codec: MkvCodec, heads: &Heads, private: Vec<u8>) -> Option<Track> {
+    Some(Track::of_pictures(codec, heads.size?, private))
+}
+
 /// The track of a stream; None if its codec has none here, or its units don't say what it needs.
 pub(crate) fn track_of(alloc: Global, stream: &Stream) -> Result<Option<Track>, AllocError> {
-    let units = stream.units.as_slice();
+    let heads = &stream.heads;
     match stream.row.codec {
-        Codec::Vp8 => Ok(first_vp8_size(units).map(|size| Track::of_pictures(
-            MkvCodec::Vp8,
-            size,
-            Vec::new(alloc),
-        ))),
-        Codec::Vp9 => Ok(first_vp9_size(units).map(|size| Track::of_pictures(
-            MkvCodec::Vp9,
-            size,
-            Vec::new(alloc),
-        ))),
-        Codec::Av1 => av1_track(alloc, units),
-        Codec::H264 => h264_track(alloc, units),
+        Codec::Vp8 => Ok(pictures(MkvCodec::Vp8, heads, Vec::new(alloc))),
+        Codec::Vp9 => Ok(pictures(MkvCodec::Vp9, heads, Vec::new(alloc))),
+        Codec::Av1 => Ok(pictures(MkvCodec::Av1, heads, heads.sequence.clone()?)),
+        Codec::H264 => h264_track(alloc, heads),
+        Codec::H265 => h265_track(alloc, heads),
         Codec::Opus => Ok(Some(opus_track(alloc, stream.row.channels.clamp(1, 2))?)),
         Codec::PCMU => Ok(Some(sound_track(alloc, 7, 8000, 8)?)),
         Codec::PCMA => Ok(Some(sound_track(alloc, 6, 8000, 8)?)),
@@ -161,21 +124,13 @@ pub(crate) fn track_of(alloc: Global, stream: &Stream) -> Result<Option<Track>, 
     }
 }
 
-/// Whether a unit of a stream can be decoded alone.
-pub(crate) fn is_key(stream: &Stream, unit: &Unit) -> bool {
-    match stream.row.codec {
-        Codec::Vp9 => is_vp9_key(&unit.bytes),
-        codec => codec.is_audio() || unit.is_key,
-    }
-}
-
-/// The bytes of a unit in a track: of H.264 each NAL unit after its length in four bytes.
-pub(crate) fn framed(alloc: Global, stream: &Stream, unit: &Unit) -> Result<Vec<u8>, AllocError> {
-    if stream.row.codec != Codec::H264 {
-        return Vec::from_slice(alloc, &unit.bytes);
+/// The bytes of a unit in a track: of H.264 and H.265 each NAL unit after its length in four bytes.
+pub(crate) fn framed(alloc: Global, codec: Codec, unit: Vec<u8>) -> Result<Vec<u8>, AllocError> {
+    if !matches!(codec, Codec::H264 | Codec::H265) {
+        return Ok(unit);
     }
     let mut bytes = Vec::new(alloc);
-    for nal in nal_units(&unit.bytes) {
+    for nal in nal_units(&unit) {
         let len = u32::try_from(nal.len()).unwrap_or(u32::MAX);
         bytes.extend_from_slice(&len.to_be_bytes())?;
         bytes.extend_from_slice(nal)?;

@@ -1,2 +1,3 @@
 mod RowsByType
 mod TypeLists
+pub mod OneWalk

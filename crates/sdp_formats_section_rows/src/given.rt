@@ -37,7 +37,11 @@ fn with_params(mut format: FormatParams, params: &[FormatParam]) -> FormatParams
 }
 
 #[tactic(auto, unfolding(crate::specs::Given::with_attribute))]
-fn with_attribute(pt: Pt, format: FormatParams, attribute: &MediaAttribute) -> FormatParams
+pub(crate) fn with_attribute(
+    pt: Pt,
+    format: FormatParams,
+    attribute: &MediaAttribute,
+) -> FormatParams
     ensures { result ≡ with_attribute pt format attribute.now }
 {
     match attribute {
@@ -72,7 +76,7 @@ fn is_unsupported(param: &FormatParam) -> bool
 }
 
 #[tactic(auto, unfolding(crate::specs::Given::is_declined))]
-fn is_declined(pt: Pt, attribute: &MediaAttribute) -> bool
+pub(crate) fn is_declined(pt: Pt, attribute: &MediaAttribute) -> bool
     ensures { result ≡ is_declined pt attribute.now }
 {
     match attribute {
@@ -106,7 +110,7 @@ fn with_line(events: Events, most: Option<u8>) -> Events
 }
 
 #[tactic(auto, unfolding(crate::specs::Given::events_after))]
-fn events_after(pt: Pt, events: Events, attribute: &MediaAttribute) -> Events
+pub(crate) fn events_after(pt: Pt, events: Events, attribute: &MediaAttribute) -> Events
     ensures { result ≡ events_after pt events attribute.now }
 {
     match attribute {

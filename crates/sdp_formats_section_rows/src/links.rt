@@ -1,8 +1,8 @@
-//! The type of retransmissions or of redundant audio of a payload type.
+//! The type of retransmissions or of redundant audio of a payload type: the last of its role that names it.
 
 ghost use Rattle.std.specs.Prelude.{◌≡◌};
 ghost use Rattle.std.specs.List.{list_any};
-ghost use Rattle.sdp_formats_section_rows.specs.Facts.{linked_by, linked_in};
+ghost use Rattle.sdp_formats_section_rows.specs.Facts.{linked_by};
 ghost use Rattle.sdp_formats_section_rows.specs.SectionRows.{names};
 
 use crate::type_lists::is_listed;
@@ -30,7 +30,7 @@ fn any_names(role: Codec, pt: Pt, params: &[FormatParam]) -> bool
 
 // A parameter names one type, so that asking for names first leaves few questions to the list.
 #[tactic(auto, unfolding(crate::specs::Facts::linked_by))]
-fn linked_by(
+pub(crate) fn linked_by(
     role: Codec,
     types: &[Pt],
     pt: Pt,
@@ -48,15 +48,4 @@ fn linked_by(
         }
         _ => found,
     }
-}
-
-/// The last of the types in a role that names a type.
-pub(crate) fn linked(role: Codec, types: &[Pt], attributes: &[MediaAttribute], pt: Pt) -> Option<Pt>
-    ensures { result ≡ linked_in role types.now attributes.now pt }
-{
-    let mut found = None;
-    for attribute in attributes {
-        found = linked_by(role, types, pt, found, attribute);
-    }
-    found
 }

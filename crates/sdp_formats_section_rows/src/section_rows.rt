@@ -4,26 +4,25 @@ ghost use Rattle.std.specs.Prelude.{◌≡◌, ◌++◌, None, IfOk, OnOk};
 ghost use Rattle.std.specs.List.{flat_map};
 ghost use Rattle.std.specs.Prelude.{if◌then◌else◌};
 ghost use Rattle.media_types.specs.Codecs.{is_audio_codec};
-ghost use Rattle.sdp_formats_section_rows.specs.Facts.{AreKept, facts_of, format_by, has_row_by};
-ghost use Rattle.sdp_formats_section_rows.specs.Facts.{row_by, row_with, rows_by};
+ghost use Rattle.sdp_formats_section_rows.specs.Facts.{format_by, has_row_by, row_by, row_found, row_with};
 ghost use Rattle.sdp_formats_section_rows.specs.SectionRows.{listed, rows_given, rows_of};
 
-use crate::facts::{TypeFacts, facts_in, facts_of};
-use crate::given::{is_amr_wb, with_events};
+use crate::facts::{TypeFacts, facts_of, find_facts};
+use crate::given::{is_amr_wb, most_of, with_events};
 use crate::mapped::{Mapping, mappings};
 use crate::maps::ToCodecSpec;
-use crate::type_lists::types_mapped_to;
+use crate::type_lists::{media_types_in, types_mapped_to};
 use media_types::Codec;
 use rtp_wire::Pt;
 use sdp_formats_data::MediaLine;
-use sdp_formats_rows::{FormatParams, PayloadParams, is_media_codec};
+use sdp_formats_rows::{FormatParams, PayloadParams};
 use std::alloc::{AllocError, Global};
 
 fn format_by(codec: Codec, facts: &TypeFacts) -> Option<FormatParams>
     ensures { result ≡ format_by codec facts.now }
 {
     if codec.is_tele() {
-        return match facts.events_most {
+        return match most_of(facts.events) {
             Some(most) => Some(with_events(most)),
             None => None,
         };
@@ -76,27 +75,13 @@ fn row_by(mapping: &Mapping, facts: &TypeFacts) -> Option<PayloadParams>
     }
 }
 
-/// The row of a mapped type, by what is kept of the type, or else is found and kept.
-fn row_kept(
-    kept: &mut Vec<TypeFacts>,
-    section: &MediaLine,
-    resend_types: &[Pt],
-    red_types: &[Pt],
-    mapping: &Mapping,
-) -> Result<Option<PayloadParams>, AllocError>
-    requires { AreKept (facts_of section.now.pts section.now.attrs resend_types.now red_types.now) kept.old.items }
-    ensures row { IfOk result (λ row. row ≡ row_by mapping.now
-        (facts_of section.now.pts section.now.attrs resend_types.now red_types.now mapping.now.pt)) }
-    ensures kept { OnOk result
-        (AreKept (facts_of section.now.pts section.now.attrs resend_types.now red_types.now) kept.new.items) }
+fn row_found(all: &[TypeFacts], mapping: &Mapping) -> Option<PayloadParams>
+    ensures { result ≡ row_found all.now mapping.now }
 {
-    if let Some(facts) = facts_in(kept.as_slice(), mapping.pt) {
-        return Ok(row_by(mapping, facts));
+    match find_facts(all, mapping.pt) {
+        Some(facts) => row_by(mapping, facts),
+        None => None,
     }
-    let facts = facts_of(section, resend_types, red_types, mapping.pt);
-    let row = row_by(mapping, &facts);
-    kept.push(facts)?;
-    Ok(row)
 }
 
 fn push_if(rows: &mut Vec<PayloadParams>, row: Option<PayloadParams>) -> Result<(), AllocError>
@@ -111,28 +96,6 @@ fn push_if(rows: &mut Vec<PayloadParams>, row: Option<PayloadParams>) -> Result<
     }
 }
 
-#[tactic(auto, unfolding(crate::specs::Facts::rows_by))]
-fn push_row(
-    rows: &mut Vec<PayloadParams>,
-    kept: &mut Vec<TypeFacts>,
-    section: &MediaLine,
-    resend_types: &[Pt],
-    red_types: &[Pt],
-    mapping: &Mapping,
-) -> Result<(), AllocError>
-    requires { AreKept (facts_of section.now.pts section.now.attrs resend_types.now red_types.now) kept.old.items }
-    ensures rows { OnOk result (rows.new.items ≡ rows.old.items
-        ++ rows_by section.now.pts section.now.attrs resend_types.now red_types.now mapping.now) }
-    ensures kept { OnOk result
-        (AreKept (facts_of section.now.pts section.now.attrs resend_types.now red_types.now) kept.new.items) }
-{
-    if !is_media_codec(mapping.map.codec) {
-        return Ok(());
-    }
-    let row = row_kept(kept, section, resend_types, red_types, mapping)?;
-    push_if(rows, row)
-}
-
 // A type is one byte, so that there are at most 256 to look through for each mapping.
 fn rows_of(
     alloc: Global,
@@ -144,17 +107,17 @@ fn rows_of(
 {
     let resend_types = types_mapped_to(alloc, Codec::Rtx, mappings)?;
     let red_types = types_mapped_to(alloc, Codec::Red, mappings)?;
-    let mut kept = Vec::new(alloc);
+    let types = media_types_in(alloc, mappings)?;
+    let all = facts_of(
+        alloc,
+        section,
+        resend_types.as_slice(),
+        red_types.as_slice(),
+        types.as_slice(),
+    )?;
     let mut rows = Vec::new(alloc);
     for mapping in mappings {
-        push_row(
-            &mut rows,
-            &mut kept,
-            section,
-            resend_types.as_slice(),
-            red_types.as_slice(),
-            mapping,
-        )?;
+        push_if(&mut rows, row_found(all.as_slice(), mapping))?;
     }
     Ok(rows)
 }

@@ -1,3 +1,4 @@
 pub mod Whole
 pub mod Three
 pub mod Streams
+pub mod VideoFrame

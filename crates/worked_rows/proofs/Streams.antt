@@ -28,7 +28,7 @@ use Rattle.rtp_media_runs.proofs.Exchanged.{agreed-is}
 use Rattle.worked_rows.specs.Call.{IsShortSample, SendsPieces, sends_pieces}
 use Rattle.worked_rows.proofs.Whole.{of-pieces}
 
-row-kept : (s : Sending) (red : Option ℕ) (d : Option (List ℕ)) → (with_distances s red d).row ≡ s.row
+pub row-kept : (s : Sending) (red : Option ℕ) (d : Option (List ℕ)) → (with_distances s red d).row ≡ s.row
 row-kept s red None = refl
 row-kept s red (Some ds) = refl
 
@@ -76,7 +76,7 @@ some-arrive s (x ∷ xs) short zero d lt = (short 0 x (omega arith)).some
 some-arrive s (x ∷ xs) short (suc k) d lt = some-arrive s xs (λ j e lt'. short (suc j) e (omega arith)) k d
     (omega arith)
 
-no-values : AreValues absent
+pub no-values : AreValues absent
 no-values = record {
   transport_cc = tt;
   mid = tt;

@@ -121,11 +121,11 @@ tame-three s (x ∷ y ∷ z ∷ []) three is next room short answers silent =
     }
 tame-three s (w ∷ x ∷ y ∷ z ∷ samples) three is next room short answers silent = absurd (omega arith)
 
-abbrev timed_bytes : Result Timed PacketError → Result (List ℕ) PacketError
+abbrev pub timed_bytes : Result Timed PacketError → Result (List ℕ) PacketError
 timed_bytes (Ok t) = Ok t.bytes
 timed_bytes (Err e) = Err e
 
-bytes-are : (rs : List (Result MediaUnit PacketError)) → map bytes_out rs ≡ map timed_bytes (map timed_unit rs)
+pub bytes-are : (rs : List (Result MediaUnit PacketError)) → map bytes_out rs ≡ map timed_bytes (map timed_unit rs)
 bytes-are [] = refl
 bytes-are (Ok u ∷ rs) = ap (λ (ts : List (Result (List ℕ) PacketError)). Ok u.bytes ∷ ts) (bytes-are rs)
 bytes-are (Err e ∷ rs) = ap (λ (ts : List (Result (List ℕ) PacketError)). Err e ∷ ts) (bytes-are rs)

@@ -1,7 +1,8 @@
 //! Uses of ends, exchanges and lines: worked rows that the program's lines can't express, line runs
 //! that fail, and sessions between two ends. Rows and runs are compared with expected output; the
 //! sessions are proved: two ends agree on Opus, G.711 or G.722, one sends three samples, and the
-//! other hands out exactly these, in order, although the second arrives last.
+//! other hands out exactly these, in order, although the second arrives last; or they agree on VP8,
+//! and a frame comes out although the second of its two packets is lost and has to be repaired.
 #![tactic(auto)]
 
 mod calls;
@@ -14,6 +15,7 @@ mod sessions;
 mod silence;
 mod stream_rows;
 mod value_rows;
+mod video_call;
 mod worked_rows;
 
 use compared::print_rows;

@@ -4,15 +4,16 @@ ghost use Rattle.std.specs.Prelude.{◌≡◌, ◌<◌, None};
 
 use media_types::Codec;
 use rtp_media_streams::{PayloadTypes, RowFormat};
-use rtp_wire::{Frequency, Pt};
+use rtp_wire::{Extension, ExtensionMap, ExtensionValues, Frequency, Mid, Pt};
 use std::alloc::{AllocError, Global};
 
-/// A row under its name, whether it has redundancy, and a sample.
+/// A row under its name, whether it has redundancy and header extensions, and a sample.
 #[derive(Clone, Copy, Drop)]
 pub(crate) struct Line<'a> {
     pub(crate) name: &'a str,
     pub(crate) row: RowFormat,
     pub(crate) has_red: bool,
+    pub(crate) has_extensions: bool,
     pub(crate) sample: &'a [u8],
 }
 
@@ -34,6 +35,7 @@ pub(crate) fn audio<'a>(
         name,
         row,
         has_red,
+        has_extensions: false,
         sample,
     }
 }
@@ -50,8 +52,31 @@ pub(crate) fn video<'a>(name: &'a str, codec: Codec, sample: &'a [u8]) -> Line<'
         name,
         row,
         has_red: false,
+        has_extensions: false,
         sample,
     }
+}
+
+/// The map of header extensions of a line: none, or the three that browsers send most.
+pub(crate) fn extensions(line: &Line<'_>) -> ExtensionMap {
+    let mut map = ExtensionMap::empty();
+    if line.has_extensions {
+        map.set(2, Extension::AbsoluteSendTime);
+        map.set(3, Extension::TransportSequenceNumber);
+        map.set(4, Extension::RtpMid);
+    }
+    map
+}
+
+/// The values that a line's datagrams carry.
+pub(crate) fn values(line: &Line<'_>) -> ExtensionValues {
+    let mut values = ExtensionValues::absent();
+    if line.has_extensions {
+        values.abs_send_time = Some(1_000_000);
+        values.transport_cc = Some(7);
+        values.mid = Some(Mid::from("0"));
+    }
+    values
 }
 
 /// The payload types of every stream.

@@ -1,12 +1,13 @@
 //! Datagrams that are received, with a poll after each.
 
-use crate::streams::line::{Line, types};
-use crate::streams::sending::{push, sender};
+use crate::streams::line::{Line, extensions, types};
+use crate::streams::sending::{push, table};
 use crate::streams::slices::{SLICES, put_rate, rounds_for, shorter};
 use h26x_payload::has_format;
 use payload_core_buffer::MIN_HELD;
+use rtp_media_stream_table::StreamTable;
 use rtp_media_streams::ReceivingStream;
-use rtp_wire::{ExtensionMap, RtpHeader, Ssrc};
+use rtp_wire::Ssrc;
 use std::alloc::Global;
 use std::io;
 use std::time::Instant;
@@ -14,37 +15,47 @@ use std::time::Instant;
 /// How many datagrams one slice has if others wait.
 const TURNS: u32 = 200;
 
-/// A stream that receives a line's datagrams.
-fn receiver(alloc: Global, line: &Line<'_>, hold_back: usize) -> io::Result<ReceivingStream> {
+/// A table with a stream that receives a line's datagrams, and its number.
+pub(crate) fn receiver(
+    alloc: Global,
+    line: &Line<'_>,
+    hold_back: usize,
+) -> io::Result<(StreamTable, usize)> {
     if !has_format(line.row.codec) {
         return Err(io::Error::other("a codec without a payload format"));
     }
-    Ok(ReceivingStream::new(
+    let stream = ReceivingStream::new(
         alloc,
         Ssrc::from(44),
         types(line),
-        ExtensionMap::empty(),
+        extensions(line),
         line.row,
         hold_back,
         MIN_HELD,
-    ))
+    );
+    let mut table = StreamTable::new(alloc);
+    if table.could_receive(stream.ssrc(), &stream.types()) {
+        return Err(io::Error::other("the stream is open"));
+    }
+    let number = table.add_receiver(stream)?;
+    Ok((table, number))
 }
 
 /// The datagrams of one sample after some others.
-fn datagrams_of(alloc: Global, line: &Line<'_>) -> io::Result<Vec<Vec<u8>>> {
-    let mut stream = sender(alloc, line)?;
+pub(crate) fn datagrams_of(alloc: Global, line: &Line<'_>) -> io::Result<Vec<Vec<u8>>> {
+    let (mut table, stream) = table(alloc, line)?;
     for number in 0..4 {
-        push(&mut stream, number, line.sample)?;
+        push(&mut table, stream, number, line)?;
     }
     let mut datagrams = Vec::new(alloc);
-    for datagram in push(&mut stream, 4, line.sample)? {
+    for datagram in push(&mut table, stream, 4, line)? {
         datagrams.push(datagram.into_vec())?;
     }
     Ok(datagrams)
 }
 
 /// Writes a number and a timestamp into a header (RFC 3550 5.1).
-fn renumber(datagram: &mut Vec<u8>, number: u16, time: u16) {
+pub(crate) fn renumber(datagram: &mut Vec<u8>, number: u16, time: u16) {
     if datagram.len() < 8 {
         return;
     }
@@ -55,15 +66,12 @@ fn renumber(datagram: &mut Vec<u8>, number: u16, time: u16) {
 }
 
 /// Receives a datagram and polls; how many bytes the unit has, 0 without one.
-fn take(stream: &mut ReceivingStream, datagram: &[u8]) -> usize {
-    let Some(header) = RtpHeader::parse_without_values(datagram) else {
+fn take(table: &mut StreamTable, stream: usize, datagram: &[u8]) -> usize {
+    let _ = table.receive(datagram);
+    if !table.is_receiver(stream) {
         return 0;
-    };
-    let Some(arrival) = stream.arrival(&header, datagram) else {
-        return 0;
-    };
-    let _ = stream.receive(&arrival, datagram);
-    match stream.poll() {
+    }
+    match table.poll(stream) {
         Ok(Some(unit)) => unit.bytes().len(),
         _ => 0,
     }
@@ -71,7 +79,7 @@ fn take(stream: &mut ReceivingStream, datagram: &[u8]) -> usize {
 
 /// Receives the datagrams of a sample over and over, under rising numbers.
 pub(crate) fn measure(rt: &HostRuntime, line: &Line<'_>) -> io::Result<()> {
-    let mut stream = receiver(rt.alloc(), line, 0)?;
+    let (mut table, stream) = receiver(rt.alloc(), line, 0)?;
     let mut datagrams = datagrams_of(rt.alloc(), line)?;
     let mut nanos = u128::MAX;
     let mut bytes = 0;
@@ -83,7 +91,7 @@ pub(crate) fn measure(rt: &HostRuntime, line: &Line<'_>) -> io::Result<()> {
             for datagram in &mut datagrams {
                 number = number.wrapping_add(1);
                 renumber(datagram, number, time);
-                bytes = take(&mut stream, datagram);
+                bytes = take(&mut table, stream, datagram);
             }
         }
         nanos = shorter(rt, &start, nanos)?;
@@ -94,7 +102,7 @@ pub(crate) fn measure(rt: &HostRuntime, line: &Line<'_>) -> io::Result<()> {
 
 /// Receives each other datagram, if so many wait for the others.
 pub(crate) fn measure_waiting(rt: &HostRuntime, line: &Line<'_>, waiting: u32) -> io::Result<()> {
-    let mut stream = receiver(rt.alloc(), line, waiting as usize)?;
+    let (mut table, stream) = receiver(rt.alloc(), line, waiting as usize)?;
     let mut datagrams = datagrams_of(rt.alloc(), line)?;
     let mut nanos = u128::MAX;
     let mut bytes = 0;
@@ -110,7 +118,7 @@ pub(crate) fn measure_waiting(rt: &HostRuntime, line: &Line<'_>, waiting: u32) -
             number = number.wrapping_add(2);
             for datagram in &mut datagrams {
                 renumber(datagram, number, number);
-                bytes = take(&mut stream, datagram);
+                bytes = take(&mut table, stream, datagram);
             }
         }
         nanos = shorter(rt, &start, nanos)?;

@@ -2,7 +2,7 @@ use Rattle.std.proofs.Common.{◌≡◌, ℕ, ◌-◌, ◌<◌, List, ◌∷◌,
 use Rattle.std.proofs.Common.{append_assoc, arith}
 use Rattle.std.proofs.lemmas.List.{map-append, append-nil, length-append}
 use Rattle.std.specs.Slice.Iter.{chunks_rest}
-use Rattle.payload_core_base.specs.Packing.{is_none_left}
+use Rattle.payload_core_base.specs.Packing.{is_none_left, with_prefix}
 use Rattle.payload_core_base.specs.Pieces.{pieces}
 use Rattle.payload_core_base.proofs.PieceLemmas.{pieces-end, pieces-next}
 use Rattle.h26x_payload_units.specs.Fragments.{in_fragments}
@@ -31,20 +31,23 @@ loop-part-preserved c =
     let last : is_none_left (pieces size rest) ≡ eqb (c.loop-part.left - length c.in-Some-part.part.now) 0 =
     none_left-pieces size rest some_size ∙ ap (λ n. eqb n 0) (sym left) in
     let before : List (List ℕ) = map (λ p. p.items) c.loop-part.packets.items in
+    let prefix : List ℕ = c.args.prefix.now in
     record {
       size = steps.0 ∙ whole.size;
       left = left;
       whole =
           rw (c.in_ok-push.ensures.items, map-append, append_assoc, c.in_ok-fu_a.ensures)
-          (ap (λ e. before ++ fu_a header c.loop-part.first e c.in-Some-part.part.now
-          ∷ in_fragments (fu_a header) false (pieces size rest)) (sym last)
-          ∙ ap (λ ps. before ++ in_fragments (fu_a header) c.loop-part.first ps) (sym next) ∙ whole.whole);
+          (ap (λ e. before ++ (prefix ++ fu_a header c.loop-part.first e c.in-Some-part.part.now)
+          ∷ with_prefix prefix (in_fragments (fu_a header) false (pieces size rest))) (sym last)
+          ∙ ap (λ ps. before ++ with_prefix prefix (in_fragments (fu_a header) c.loop-part.first ps)) (sym next)
+          ∙ whole.whole);
     }
 
 pub returns : goal.returns
 returns c =
     let whole = c.loop-part.invariant.whole in
     let ps : List (List ℕ) = map (λ p. p.items) c.loop-part.packets.items in
-    sym (append-nil ps) ∙ ap (λ rest. ps ++ in_fragments (fu_a c.in-Some.header.now) c.loop-part.first rest)
+    sym (append-nil ps)
+    ∙ ap (λ rest. ps ++ with_prefix c.args.prefix.now (in_fragments (fu_a c.in-Some.header.now) c.loop-part.first rest))
     (sym (pieces-end (c.args.limit - 2) (chunks_rest c.loop-part.part-iterator) c.in-None.ensures.steps.1.0))
     ∙ whole

@@ -1,5 +1,6 @@
 use Rattle.std.proofs.Common.{◌≡◌, ◌++◌, map}
 use Rattle.std.specs.List.{flat_map}
+use Rattle.payload_core_base.specs.Packing.{with_prefix}
 use Rattle.h26x_payload_units.specs.Units.{units_of}
 use Rattle.h26x_payload_units.specs.UnitsLeft.{units_left}
 use Rattle.h26x_payload_units.specs.Departures.{departures, waiting_after}
@@ -11,11 +12,11 @@ use Rattle.h26x_payload_formats.proofs.h264_sender.push_units.Given as goal
 abbrev pub invariant-loop-unit : goal.invariant-loop-unit
 invariant-loop-unit l = record {
   packets : map (λ p. p.items) l.packets.items
-      ++ flat_map (packets_of l.limit) (departures h264_rules l.limit (waiting_in l.waiting)
-      (units_left l.unit-iterator))
+      ++ with_prefix l.prefix (flat_map (packets_of l.limit) (departures h264_rules l.limit (waiting_in l.waiting)
+      (units_left l.unit-iterator)))
       ≡ map (λ p. p.items) l.initial.packets.items
-      ++ flat_map (packets_of l.limit) (departures h264_rules l.limit (waiting_in l.initial.waiting)
-      (units_of l.sample));
+      ++ with_prefix l.prefix (flat_map (packets_of l.limit) (departures h264_rules l.limit
+      (waiting_in l.initial.waiting) (units_of l.sample)));
   waiting : waiting_after h264_rules (waiting_in l.waiting) (units_left l.unit-iterator)
       ≡ waiting_after h264_rules (waiting_in l.initial.waiting) (units_of l.sample);
 }

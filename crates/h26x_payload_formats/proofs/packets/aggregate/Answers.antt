@@ -1,8 +1,8 @@
-use Rattle.std.proofs.Common.{ℕ, List, ◌∷◌, ap, option_map}
+use Rattle.std.proofs.Common.{ℕ, List, option_map}
 use Rattle.h26x_payload_units.specs.Headers.{aggregate_high, aggregate_low, layer_of, tid_of}
 use Rattle.h26x_payload_formats.specs.Packing.{least}
 use Rattle.h26x_payload_formats.specs.Waiting.{joining}
-use Rattle.h26x_payload_formats.proofs.SendingLemmas.{sets_laid}
+use Rattle.h26x_payload_formats.proofs.SendingLemmas.{aggregate_laid}
 use Rattle.h26x_payload_formats.proofs.packets.aggregate.Goals as goal
 
 pub returns : goal.returns
@@ -20,11 +20,11 @@ returns c =
       c.in_ok-push_donl.ensures,
       c.in_ok-push-2.ensures.items,
       c.in_ok-push.ensures.items,
-      c.new-packet.ensures.items,
+      c.in_ok-packet.ensures,
       c.aggregate_high.ensures,
       c.aggregate_low.ensures,
       c.least_layer-layer.ensures,
       c.least_tid.ensures,
     )
-    (ap (λ t. aggregate_high l layer ∷ aggregate_low l layer tid ∷ t)
-    (sets_laid l c.args.form.donl c.args.number vps c.args.sps.now c.args.pps.now))
+    (aggregate_laid l c.args.form.donl c.args.number vps c.args.sps.now c.args.pps.now c.args.prefix.now
+    (aggregate_high l layer) (aggregate_low l layer tid))

@@ -1,6 +1,7 @@
 use Rattle.std.proofs.Common.{ℕ, ◌-◌, List, ◌∷◌, ◌++◌, false, map, ap, ◌∙◌, append_assoc, rules, arith}
 use Rattle.std.proofs.lemmas.List.{map-append}
 use Rattle.std.proofs.lemmas.Result.{on_ok_weaker}
+use Rattle.payload_core_base.specs.Packing.{with_prefix}
 use Rattle.payload_core_base.specs.Pieces.{pieces}
 use Rattle.h26x_payload_units.specs.Fragments.{in_fragments}
 use Rattle.h26x_payload_formats.specs.Packing.{fragment}
@@ -24,5 +25,5 @@ returns c =
     let later : List (List ℕ) = in_fragments (fragment l donl number high low) false (pieces (limit - 3) rest) in
     on_ok_weaker c.push_later_fragments.result
     (λ sent. sent ∙ rw (c.in_ok-push.ensures.items, map-append, append_assoc, c.in_ok-fragment.ensures)
-    (ap (λ t. before ++ t) all))
+    (ap (λ t. before ++ with_prefix c.args.prefix.now t) all))
     c.push_later_fragments.ensures

@@ -2,7 +2,7 @@ use Rattle.std.proofs.Common.{◌≡◌, ℕ, ◌-◌, ◌<◌, List, ◌∷◌,
 use Rattle.std.proofs.Common.{append_assoc, arith}
 use Rattle.std.proofs.lemmas.List.{map-append, append-nil, length-append}
 use Rattle.std.specs.Slice.Iter.{chunks_rest}
-use Rattle.payload_core_base.specs.Packing.{is_none_left}
+use Rattle.payload_core_base.specs.Packing.{is_none_left, with_prefix}
 use Rattle.payload_core_base.specs.Pieces.{pieces}
 use Rattle.payload_core_base.proofs.PieceLemmas.{pieces-end, pieces-next}
 use Rattle.h26x_payload_units.specs.Fragments.{in_fragments}
@@ -30,6 +30,7 @@ loop-part-preserved c =
     let last : is_none_left (pieces size rest) ≡ eqb (c.loop-part.left - length c.in-Some.part.now) 0 =
     none_left-pieces size rest some_size ∙ ap (λ n. eqb n 0) (sym left) in
     let before : List (List ℕ) = map (λ p. p.items) c.loop-part.packets.items in
+    let prefix : List ℕ = c.args.prefix.now in
     let cut = c.args.cut in
     let l = c.args.form.layout in
     let donl = c.args.form.donl in
@@ -38,9 +39,11 @@ loop-part-preserved c =
       left = left;
       whole =
           rw (c.in_ok-push.ensures.items, map-append, append_assoc, c.in_ok-fragment.ensures)
-          (ap (λ e. before ++ fragment l donl cut.number cut.high cut.low false e c.in-Some.part.now
-          ∷ in_fragments (fragment l donl cut.number cut.high cut.low) false (pieces size rest)) (sym last)
-          ∙ ap (λ ps. before ++ in_fragments (fragment l donl cut.number cut.high cut.low) false ps) (sym next)
+          (ap (λ e. before ++ (prefix ++ fragment l donl cut.number cut.high cut.low false e c.in-Some.part.now)
+          ∷ with_prefix prefix (in_fragments (fragment l donl cut.number cut.high cut.low) false (pieces size rest)))
+          (sym last)
+          ∙ ap (λ ps. before ++ with_prefix prefix
+          (in_fragments (fragment l donl cut.number cut.high cut.low) false ps)) (sym next)
           ∙ whole.whole);
     }
 
@@ -49,7 +52,7 @@ returns c =
     let whole = c.loop-part.invariant.whole in
     let cut = c.args.cut in
     let ps : List (List ℕ) = map (λ p. p.items) c.loop-part.packets.items in
-    sym (append-nil ps) ∙ ap (λ rest. ps ++ in_fragments (fragment c.args.form.layout c.args.form.donl cut.number
-    cut.high cut.low)
-    false rest) (sym (pieces-end (c.args.form.limit - 3) (chunks_rest c.loop-part.part-iterator)
-    c.in-None.ensures.steps.1.0)) ∙ whole
+    sym (append-nil ps) ∙ ap (λ rest. ps ++ with_prefix c.args.prefix.now (in_fragments
+    (fragment c.args.form.layout c.args.form.donl cut.number cut.high cut.low) false rest))
+    (sym (pieces-end (c.args.form.limit - 3) (chunks_rest c.loop-part.part-iterator) c.in-None.ensures.steps.1.0))
+    ∙ whole

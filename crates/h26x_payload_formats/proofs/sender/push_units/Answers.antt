@@ -1,4 +1,6 @@
 use Rattle.std.proofs.Common.{ℕ, List, ◌++◌, map, sym, ap, ◌∙◌, append_assoc}
+use Rattle.std.proofs.lemmas.List.{map-append}
+use Rattle.payload_core_base.specs.Packing.{with_prefix}
 use Rattle.std.specs.List.{flat_map}
 use Rattle.h26x_payload_units.specs.UnitsLeft.{units_left}
 use Rattle.h26x_payload_units.specs.Departures.{Departure, Rules, Waiting, departing, departures, waiting_after}
@@ -27,18 +29,23 @@ loop-unit-preserved c =
     let ds : List Departure = departing rules limit (role_by c.args.form.layout (unit_type c.args.form.layout u)) w u in
     let v : Waiting = waiting_behind rules (role_by c.args.form.layout (unit_type c.args.form.layout u)) w u in
     let before : List (List ℕ) = map (λ p. p.items) c.loop-unit.packets.items in
+    let prefix : List ℕ = c.args.prefix.now in
     let now : List (List ℕ) = flat_map packets (numbered n ds) in
+    let later : List (List ℕ) = flat_map packets (numbered (number_after n ds) (departures rules limit v us)) in
+    let sent_now : List (List ℕ) = with_prefix prefix now in
     record {
       packets =
-          ap (λ t. t ++ flat_map packets (numbered kept.number (departures rules limit (waiting_in kept) us)))
-          sent.packets
-          ∙ ap (λ m. (before ++ now) ++ flat_map packets (numbered m (departures rules limit (waiting_in kept) us)))
-          sent.number
-          ∙ ap (λ x. (before ++ now) ++ flat_map packets
-          (numbered (number_after n ds) (departures rules limit x us))) sent.waiting
-          ∙ append_assoc before now (flat_map packets (numbered (number_after n ds) (departures rules limit v us)))
-          ∙ ap (λ t. before ++ t) (sym (packets_append packets n ds (departures rules limit v us)))
-          ∙ ap (λ vs. before ++ flat_map packets (numbered n (departures rules limit w vs))) (sym steps)
+          ap (λ t. t ++ with_prefix prefix
+          (flat_map packets (numbered kept.number (departures rules limit (waiting_in kept) us)))) sent.packets
+          ∙ ap (λ m. (before ++ sent_now) ++ with_prefix prefix
+          (flat_map packets (numbered m (departures rules limit (waiting_in kept) us)))) sent.number
+          ∙ ap (λ x. (before ++ sent_now) ++ with_prefix prefix
+          (flat_map packets (numbered (number_after n ds) (departures rules limit x us)))) sent.waiting
+          ∙ append_assoc before sent_now (with_prefix prefix later)
+          ∙ ap (λ t. before ++ t) (sym (map-append (λ p. prefix ++ p) now later))
+          ∙ ap (λ t. before ++ with_prefix prefix t) (sym (packets_append packets n ds (departures rules limit v us)))
+          ∙ ap (λ vs. before ++ with_prefix prefix (flat_map packets (numbered n (departures rules limit w vs))))
+          (sym steps)
           ∙ whole.packets;
       number =
           ap (λ m. number_after m (departures rules limit (waiting_in kept) us)) sent.number

@@ -1,5 +1,6 @@
 use Rattle.std.proofs.Common.{◌≡◌, ◌++◌, map}
 use Rattle.std.specs.List.{flat_map}
+use Rattle.payload_core_base.specs.Packing.{with_prefix}
 use Rattle.h26x_payload_units.specs.Units.{units_of}
 use Rattle.h26x_payload_units.specs.UnitsLeft.{units_left}
 use Rattle.h26x_payload_units.specs.Departures.{departures, waiting_after}
@@ -12,13 +13,13 @@ use Rattle.h26x_payload_formats.proofs.sender.push_units.Given as goal
 abbrev pub invariant-loop-unit : goal.invariant-loop-unit
 invariant-loop-unit l = record {
   packets : map (λ p. p.items) l.packets.items
-      ++ flat_map (packets_of l.form.layout l.form.donl l.form.limit)
+      ++ with_prefix l.prefix (flat_map (packets_of l.form.layout l.form.donl l.form.limit)
       (numbered l.kept.number (departures (h265_h266_rules l.form.layout l.form.donl) l.form.limit (waiting_in l.kept)
-      (units_left l.unit-iterator)))
+      (units_left l.unit-iterator))))
       ≡ map (λ p. p.items) l.initial.packets.items
-      ++ flat_map (packets_of l.form.layout l.form.donl l.form.limit)
+      ++ with_prefix l.prefix (flat_map (packets_of l.form.layout l.form.donl l.form.limit)
       (numbered l.initial.kept.number (departures (h265_h266_rules l.form.layout l.form.donl) l.form.limit
-      (waiting_in l.initial.kept) (units_of l.sample)));
+      (waiting_in l.initial.kept) (units_of l.sample))));
   number : number_after l.kept.number (departures (h265_h266_rules l.form.layout l.form.donl) l.form.limit
       (waiting_in l.kept)
       (units_left l.unit-iterator))

@@ -1,4 +1,4 @@
-use Rattle.std.proofs.Common.{◌≡◌, ◌-◌, ℕ, List, Bor, Option, Ok, arith, ap, sym, ◌∙◌}
+use Rattle.std.proofs.Common.{◌-◌, ℕ, List, Bor, Option, Ok, arith, ap, sym, ◌∙◌}
 use Rattle.std.proofs.lemmas.Grind.{common_steps}
 use Rattle.media_files_captures.specs.Network.{extended}
 use Rattle.media_files_captures.specs.Tunnels.{read_inside}

@@ -1,12 +1,14 @@
 use Rattle.std.proofs.Common.{ℕ, List, ◌++◌, map, min, length, sym, ◌∙◌, ap, append_assoc}
 use Rattle.std.proofs.lemmas.List.{map-append, append-nil}
 use Rattle.std.specs.Slice.Iter.{chunks_rest}
+use Rattle.payload_core_base.specs.Packing.{with_prefix}
 use Rattle.payload_core_base.proofs.PieceLemmas.{pieces-none, pieces-end, pieces-next}
 use Rattle.payload_core_audio.proofs.cut.cut.Goals as goal
 
 pub returns-then-limit-eq0 : goal.returns-then-limit-eq0
 returns-then-limit-eq0 c =
-    rw (c.new.ensures.items, c.if-limit-eq0.true) (sym (pieces-none c.args.bytes.now))
+    rw (c.new.ensures.items, c.if-limit-eq0.true)
+    (ap (with_prefix c.args.prefix.now) (sym (pieces-none c.args.bytes.now)))
 
 pub loop-piece-preserved : goal.loop-piece-preserved
 loop-piece-preserved c =
@@ -19,14 +21,15 @@ loop-piece-preserved c =
       some_limit = whole.some_limit;
       size = steps.0 ∙ whole.size;
       whole =
-          rw (c.in_ok-push.ensures.items, map-append, append_assoc, c.in_ok-from_slice.ensures.items)
-          (ap (λ ps. map (λ p. p.items) c.loop-piece.packets.items ++ ps) (sym next) ∙ whole.whole);
+          rw (c.in_ok-push.ensures.items, map-append, append_assoc, c.in_ok-after_prefix.ensures)
+          (ap (λ ps. map (λ p. p.items) c.loop-piece.packets.items ++ with_prefix c.args.prefix.now ps) (sym next)
+          ∙ whole.whole);
     }
 
 pub returns : goal.returns
 returns c =
     let whole = c.loop-piece.invariant in
     let ps : List (List ℕ) = map (λ p. p.items) c.loop-piece.packets.items in
-    sym (append-nil ps) ∙ ap (λ rest. ps ++ rest)
+    sym (append-nil ps) ∙ ap (λ rest. ps ++ with_prefix c.args.prefix.now rest)
     (sym (pieces-end c.args.limit (chunks_rest c.loop-piece.piece-iterator) c.in-None.ensures.steps.1.0))
     ∙ whole.whole

@@ -1,4 +1,4 @@
-use Rattle.std.proofs.Common.{ℕ, ◌++◌, Bool, List, Vec, Global, map, ap, ◌∙◌}
+use Rattle.std.proofs.Common.{ℕ, ◌++◌, Bool, List, ap, ◌∙◌}
 use Rattle.std.specs.Prelude.{◌||◌, option_map}
 use Rattle.payload_core_av1.specs.Av1Packing.{texts_of}
 use Rattle.payload_core_av1.specs.Obus.{Obu, ObuCut, obu_cut}
@@ -12,7 +12,7 @@ loop-rest-preserved c =
     let rest : List ℕ = c.loop-rest.rest.now in
     let cut : ObuCut = obu_cut c.in-Some.obu.header c.in-Some.obu.extension c.in-Some.obu.payload.now
     c.in-Some.behind.now in
-    let before : List (List ℕ) = map (λ (t : Vec ℕ Global). t.items) c.loop-rest.kept.texts.items in
+    let before : List (List ℕ) = c.loop-rest.kept.texts.items in
     record {
       texts = ap (λ (ts : List (List ℕ)). option_map (λ (os : List Obu). ts ++ texts_of os) (kept_of cut.rest))
           c.in_ok-keep.ensures.texts ∙ texts-go rest cut before c.in-Some.ensures.value ∙ inv.texts;

@@ -1,8 +1,8 @@
-use Rattle.std.proofs.Common.{◌≡◌, ◌++◌, map, drop}
+use Rattle.std.proofs.Common.{◌≡◌, ◌++◌, drop}
 use Rattle.payload_core_av1.specs.Av1Packing.{body_from, packet_of}
 use Rattle.payload_core_av1.proofs.av1_sender.packet.Given as goal
 
 -- the bytes so far, and the elements that are left
 abbrev pub invariant-loop-place : goal.invariant-loop-place
-invariant-loop-place l = l.packet.items ++ body_from l.place (map (λ e. e.now) (drop l.place l.elements))
-    ≡ packet_of l.z l.y l.n (map (λ e. e.now) l.elements)
+invariant-loop-place l = l.packet.items ++ body_from l.place (drop l.place l.elements)
+    ≡ l.prefix ++ packet_of l.z l.y l.n l.elements

@@ -2,7 +2,7 @@ use Rattle.std.proofs.Common.{◌≡◌, ℕ, ◌-◌, List, ◌∷◌, ◌++◌
 use Rattle.std.proofs.Common.{arith}
 use Rattle.std.proofs.lemmas.List.{map-append, append-nil, length-append}
 use Rattle.std.specs.Slice.Iter.{chunks_rest}
-use Rattle.payload_core_base.specs.Packing.{is_none_left}
+use Rattle.payload_core_base.specs.Packing.{is_none_left, with_prefix}
 use Rattle.payload_core_base.specs.Pieces.{pieces}
 use Rattle.payload_core_base.proofs.PieceLemmas.{pieces-end, pieces-next}
 use Rattle.payload_core_vpx.specs.Vp9.{described, descriptor}
@@ -33,14 +33,18 @@ loop-piece-preserved c =
       left = left;
       whole =
           rw (c.in_ok-push.ensures.items, map-append, append_assoc, c.in_ok-packet.ensures)
-          (ap (λ e. before ++ (descriptor c.args.told c.args.id c.loop-piece.first e ++ c.in-Some.piece.now)
-          ∷ described c.args.told c.args.id false (pieces c.args.size rest)) (sym last)
-          ∙ ap (λ ps. before ++ described c.args.told c.args.id c.loop-piece.first ps) (sym next) ∙ whole.whole);
+          (ap (λ e. before
+          ++ (c.args.prefix.now ++ (descriptor c.args.told c.args.id c.loop-piece.first e ++ c.in-Some.piece.now))
+          ∷ with_prefix c.args.prefix.now (described c.args.told c.args.id false (pieces c.args.size rest))) (sym last)
+          ∙ ap (λ ps. before
+          ++ with_prefix c.args.prefix.now (described c.args.told c.args.id c.loop-piece.first ps)) (sym next)
+          ∙ whole.whole);
     }
 
 pub returns : goal.returns
 returns c =
     let whole = c.loop-piece.invariant.whole in
     let ps : List (List ℕ) = map (λ p. p.items) c.loop-piece.packets.items in
-    sym (append-nil ps) ∙ ap (λ rest. ps ++ described c.args.told c.args.id c.loop-piece.first rest)
+    sym (append-nil ps)
+    ∙ ap (λ rest. ps ++ with_prefix c.args.prefix.now (described c.args.told c.args.id c.loop-piece.first rest))
     (sym (pieces-end c.args.size (chunks_rest c.loop-piece.piece-iterator) c.in-None.ensures.steps.1.0)) ∙ whole

@@ -1,5 +1,6 @@
 use Rattle.std.proofs.Common.{◌≡◌, ◌++◌, true, map, length}
 use Rattle.std.specs.Slice.Iter.{chunks_rest, chunks_size}
+use Rattle.payload_core_base.specs.Packing.{with_prefix}
 use Rattle.payload_core_base.specs.Pieces.{pieces}
 use Rattle.payload_core_vpx.specs.Vp9.{described}
 use Rattle.payload_core_vpx.proofs.vp9_sender.packets.Given as goal
@@ -10,6 +11,6 @@ invariant-loop-piece l = record {
   size : chunks_size l.piece-iterator ≡ l.size;
   left : l.left ≡ length (chunks_rest l.piece-iterator);
   whole : map (λ p. p.items) l.packets.items
-      ++ described l.told l.id l.first (pieces l.size (chunks_rest l.piece-iterator))
-      ≡ described l.told l.id true (pieces l.size l.bytes);
+      ++ with_prefix l.prefix (described l.told l.id l.first (pieces l.size (chunks_rest l.piece-iterator)))
+      ≡ with_prefix l.prefix (described l.told l.id true (pieces l.size l.bytes));
 }

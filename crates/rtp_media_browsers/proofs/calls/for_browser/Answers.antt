@@ -18,6 +18,7 @@ returns-in_err-text-clause-refused c =
 
 pub returns-clause-passes : goal.returns-clause-passes
 returns-clause-passes c = is_dressed c.args.text.now c.args.plan.now c.args.transport.now c.in_ok-sdp.sdp
-    c.in_ok-dressed.dressed c.settled-plan.result (string_bytes c.in_ok-text.text) c.in_ok-text.said
+    c.in_ok-dressed.dressed c.in_ok-places.places c.settled-plan.result (string_bytes c.in_ok-text.text)
+    c.in_ok-text.said
     c.in_ok-sdp.ensures c.in_ok-test_own.ensures c.in_ok-dressed.ensures c.in_ok-text.ensures.written
-    c.in_ok-text.ensures.said c.settled-plan.ensures
+    c.in_ok-text.ensures.said c.in_ok-places.ensures c.settled-plan.ensures

@@ -15,10 +15,10 @@ whatever (Err e) x = λ _. x
 pub returns-in_err-append-in-Ok-clause-memory : goal.returns-in_err-append-in-Ok-clause-memory
 returns-in_err-append-in-Ok-clause-memory c =
     let ok : refusal_for (sender_at c.loop-sample.end c.args.tx) c.sample-item.result ≡ None =
-    rw (c.time.ensures, c.values.ensures, c.bytes.ensures) at c.in-Ok.ensures.accepted in
+    rw (c.time.ensures, c.values.ensures, c.bytes.ensures) at c.in-Ok.ensures.sends.0 in
     let after : c.push_sample.new.self ≡ with_sender c.loop-sample.end c.args.tx
     (stepped (sender_at c.loop-sample.end c.args.tx) c.sample-item.result) =
-    rw (c.time.ensures, c.values.ensures, c.bytes.ensures) at c.in-Ok.ensures.after in
+    rw (c.time.ensures, c.values.ensures, c.bytes.ensures) at c.in-Ok.ensures.sends.2 in
     let more : List (List ℕ) = c.loop-sample.datagrams.items
     ++ datagrams_for (sender_at c.loop-sample.end c.args.tx) c.sample-item.result in
     whatever _ (stops-behind _ _ _ _ _ _
@@ -28,23 +28,23 @@ returns-in_err-append-in-Ok-clause-memory c =
 pub returns-in-Err-clause-refused : goal.returns-in-Err-clause-refused
 returns-in-Err-clause-refused c = λ wants.
     let refused : refusal_for (sender_at c.loop-sample.end c.args.tx) c.sample-item.result ≡ Some c.in-Err.refusal =
-    rw (c.time.ensures, c.values.ensures, c.bytes.ensures) at (c.in-Err.ensures.refused wants) in
+    rw (c.time.ensures, c.values.ensures, c.bytes.ensures) at (c.in-Err.ensures.sends.0 wants).0 in
     refused-at _ _ _ _ _ _ _ c.sample-item.result _ c.loop-sample.invariant c.loop-sample-test.true c.sample-item.is
-    refused (c.in-Err.ensures.unchanged wants)
+    refused (c.in-Err.ensures.sends.0 wants).1
 
 pub returns-in-Err-clause-memory : goal.returns-in-Err-clause-memory
 returns-in-Err-clause-memory c = λ wants.
-    fails-at _ _ _ _ _ _ _ c.loop-sample.invariant (c.in-Err.ensures.failed wants) c.push_sample.ensures.others
+    fails-at _ _ _ _ _ _ _ c.loop-sample.invariant (c.in-Err.ensures.sends.1 wants).0 (c.in-Err.ensures.sends.1 wants).1
 
 pub loop-sample-preserved : goal.loop-sample-preserved
 loop-sample-preserved c =
     let ok : refusal_for (sender_at c.loop-sample.end c.args.tx) c.sample-item.result ≡ None =
-    rw (c.time.ensures, c.values.ensures, c.bytes.ensures) at c.in-Ok.ensures.accepted in
+    rw (c.time.ensures, c.values.ensures, c.bytes.ensures) at c.in-Ok.ensures.sends.0 in
     let after : c.push_sample.new.self ≡ with_sender c.loop-sample.end c.args.tx
     (stepped (sender_at c.loop-sample.end c.args.tx) c.sample-item.result) =
-    rw (c.time.ensures, c.values.ensures, c.bytes.ensures) at c.in-Ok.ensures.after in
+    rw (c.time.ensures, c.values.ensures, c.bytes.ensures) at c.in-Ok.ensures.sends.2 in
     let sent : c.in-Ok.sent.items ≡ datagrams_for (sender_at c.loop-sample.end c.args.tx) c.sample-item.result =
-    rw (c.time.ensures, c.values.ensures, c.bytes.ensures) at c.in-Ok.ensures.sent in
+    rw (c.time.ensures, c.values.ensures, c.bytes.ensures) at c.in-Ok.ensures.sends.1 in
     pushed-more _ _ _ _ _ _ _ _ c.sample-item.result c.loop-sample.invariant c.loop-sample-test.true c.sample-item.is
     ok after (c.in_ok-append-in-Ok.ensures ∙ ap (λ ds. c.loop-sample.datagrams.items ++ ds) sent)
 

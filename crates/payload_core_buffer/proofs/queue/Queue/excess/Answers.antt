@@ -1,4 +1,4 @@
-use Rattle.std.proofs.Common.{◌≡◌, ◌+◌, ◌-◌, ◌≤◌, ℕ, [], ap, arith, drop, length, sym, ◌∙◌}
+use Rattle.std.proofs.Common.{◌≡◌, ◌-◌, ℕ, ap, arith, drop, sym}
 use Rattle.payload_core_buffer.specs.Packets.{packets_of}
 use Rattle.payload_core_buffer.specs.Sizes.{bytes_of}
 use Rattle.payload_core_buffer.proofs.FrameLemmas.{length_packets}

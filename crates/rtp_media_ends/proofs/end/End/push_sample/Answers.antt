@@ -1,24 +1,10 @@
-use Rattle.std.proofs.Common.{arith}
-use Rattle.std.proofs.lemmas.Grind.{common_steps}
+use Rattle.rtp_media_streams.specs.SendSteps.{returned}
+use Rattle.rtp_media_ends.proofs.SentAt.{sends-at}
 use Rattle.rtp_media_ends.proofs.end.End.push_sample.Goals as goal
 
-pub returns-clause-sent : goal.returns-clause-sent
-returns-clause-sent c = grind (arith, common_steps)
-
-pub returns-clause-accepted : goal.returns-clause-accepted
-returns-clause-accepted c = grind (arith, common_steps)
-
-pub returns-clause-after : goal.returns-clause-after
-returns-clause-after c = grind (arith, common_steps)
-
-pub returns-clause-refused : goal.returns-clause-refused
-returns-clause-refused c = grind (arith, common_steps)
-
-pub returns-clause-unchanged : goal.returns-clause-unchanged
-returns-clause-unchanged c = grind (arith, common_steps)
-
-pub returns-clause-failed : goal.returns-clause-failed
-returns-clause-failed c = grind (arith, common_steps)
-
-pub returns-clause-others : goal.returns-clause-others
-returns-clause-others c = grind (arith, common_steps)
+pub returns : goal.returns
+returns c = record {
+  sends = sends-at c.args.self.now c.self.inside.exchange c.self.inside.streams c.push_sample.new.self c.args.stream
+      c.args.time c.args.values.now c.args.bytes.now (returned c.push_sample.result) c.self.view_is
+      c.push_sample.ensures.sends;
+}

@@ -1,7 +1,7 @@
 use Rattle.std.proofs.Common.{◌≡◌, ◌∙◌, arith, ap, ap₂, sym, List}
 use Rattle.std.proofs.lemmas.Grind.{common_steps}
 use Rattle.std.specs.Prelude.{slice_range, slice_set}
-use Rattle.rtp_media_streams.specs.Receiving.{Receiving, arrived, with_stream}
+use Rattle.rtp_media_streams.specs.Receiving.{Receiving, arrived, values_read, with_stream}
 use Rattle.rtp_media_stream_table.specs.Arrivals.{streams_after}
 use Rattle.rtp_media_stream_table.specs.Streams.{nth_receiver, nth_stream, receiving_of}
 use Rattle.rtp_media_stream_table.specs.declared.open_stream.OpenStream.{OpenStream}
@@ -19,13 +19,13 @@ invariant_of-self-2 c =
 
 pub returns-clause-after : goal.returns-clause-after
 returns-clause-after c =
-    let arrival = c.in-Ok.own.1 in
+    let placed = c.in-Ok.own.1 in
     let is : nth_stream c.self.inside.streams.items c.in-Ok.own.0 ≡ Receiver c.in-Receiver.receiver =
     grind (arith, common_steps) in
     let seen : nth_receiver c.args.self.now c.in-Ok.own.0 ≡ c.in-Receiver.receiver =
     ap (λ (ss : List OpenStream). nth_receiver ss c.in-Ok.own.0) (sym c.self.view_is) ∙ ap receiving_of is in
     ap₂ (λ (ss : List OpenStream) (r : Receiving). slice_set ss c.in-Ok.own.0 (Receiver r)) c.self.view_is
     (c.in_ok-taken.ensures.after
-    ∙ ap (λ (r : Receiving). with_stream r (arrived r.stream arrival.low arrival.time arrival.marker arrival.ext_vals
-    (slice_range c.args.datagram.now arrival.start arrival.end))) (sym seen))
+    ∙ ap (λ (r : Receiving). with_stream r (arrived r.stream placed.low placed.time placed.marker
+    (values_read r.map c.args.datagram.now) (slice_range c.args.datagram.now placed.start placed.end))) (sym seen))
     ∙ ap (streams_after c.args.self.now) (sym c.in-Ok.ensures.own)

@@ -1,4 +1,4 @@
-use Rattle.std.proofs.Common.{◌≡◌, [], ◌++◌, ◌∷◌, List, None, OnErr, Result, Some, Ok, Err, refl, sym, subst}
+use Rattle.std.proofs.Common.{[], ◌∷◌, OnErr, Result, Some, Ok, Err, sym, subst}
 use Rattle.std.proofs.Common.{append-nil}
 use Rattle.rtp_media_streams.specs.Polls.{Answers, Faults, HandsOut, IsPolled, NoMore, Once, Short, Silent, WantsMemory}
 use Rattle.rtp_media_streams.specs.Polls.{poll_step}

@@ -1,0 +1,30 @@
+"""The media path of WebRTC for test benches: RTP headers, replay windows, packetizers and depacketizers, ends that
+exchange offers and answers, send samples and receive units, and forwarding by packets, over a proved library. It opens
+no socket and encrypts nothing.
+
+    from jilqamur import End, Row, Section
+    a = End([Row(111, "opus", 48000, channels=2)], session=1)
+    b = End([Row(111, "opus", 48000, channels=2)], session=2)
+    answer = b.answer(a.offer([Section("0", False, ssrcs=[44])]), [Section("0", False, ssrcs=[45])])
+    a.accept(answer)
+
+`libjilqamur.so.0` is taken from this folder, from the system, or from the file that `JILQAMUR_LIBRARY` names. A call on
+one object must not overlap another one on it; objects share nothing, and may move to other threads.
+"""
+
+from .codes import Code, Refused
+from .ends import (AgreedSection, Arrival, Direction, End, Remote, Section, Setup, Taken, Verdict, Wish)
+from .library import ExtensionIds, Header
+from .streams import Depacketizer, Forwarder, Packet, Packetizer, Placed, Receiver, Sender, Window
+from .values import (EXTENSIONS, MAX_HELD, MIN_HELD, Event, FaultyLine, Format, LineFault, Names, PacketInfo, Row, Unit,
+                     Values, faulty_line, packet_info, payload_of, read_header, read_values, widen, write_header)
+
+__version__ = "0.9.0"
+
+__all__ = [
+    "AgreedSection", "Arrival", "Code", "Depacketizer", "Direction", "EXTENSIONS", "End", "Event", "ExtensionIds",
+    "FaultyLine", "Format", "Forwarder", "Header", "LineFault", "MAX_HELD", "MIN_HELD", "Names", "Packet", "PacketInfo",
+    "Packetizer", "Placed", "Receiver", "Refused", "Remote", "Row", "Section", "Sender", "Setup", "Taken", "Unit",
+    "Values", "Verdict", "Window", "Wish", "faulty_line", "packet_info", "payload_of", "read_header", "read_values",
+    "widen", "write_header",
+]

@@ -1,0 +1,297 @@
+//! Wishes for the sections of an offer that have a row in common with the end.
+
+ghost use Rattle.std.specs.Prelude.{◌≡◌, ◌≢◌, ◌&&◌, ◌==◌, IfErr, IfOk, Err, Ok, false, filter, find, map, true};
+ghost use Rattle.std.specs.List.{list_any};
+ghost use Rattle.rtp_media_browsers.specs.Calls.{RefusesOffer};
+ghost use Rattle.rtp_media_browsers.specs.InCommon.{AreInCommon, HasRows, Lacks, RefusesInCommon, Rejects, SaysToEnd};
+ghost use Rattle.rtp_media_browsers.specs.InCommon.{after_first, begins_with_named, has_named, is_answered, left_of};
+ghost use Rattle.rtp_media_browsers.specs.InCommon.{names_without, without_named};
+ghost use Rattle.rtp_media_browsers.specs.Tidied.{tidied};
+ghost use Rattle.rtp_media_exchange.specs.Refusals.{answers_none};
+ghost use Rattle.rtp_media_sections.specs.Answered.{locked_row};
+ghost use Rattle.rtp_media_sections.specs.Lines.{remote_of, section_of};
+ghost use Rattle.rtp_wire.specs.Direction.{receives};
+ghost use Rattle.sdp_formats_rounds.specs.Laws.{rounds};
+ghost use Rattle.sdp_formats_rounds.specs.declared.error.RoundError.TheVariants.{Memory};
+
+use crate::calls::offer_handed;
+use crate::error::BrowserError;
+use crate::plan::{Place, Plan};
+use crate::tidying::tidied;
+use crate::wish::Wish;
+use rtp_media_sections::Section;
+use rtp_wire::{Direction, Mid, Pt};
+use sdp_formats_data::{MediaLine, NameSet, SdpError};
+use sdp_formats_reader::sdp_parser;
+use sdp_formats_rounds::{CodecConfig, RoundError};
+use sdp_formats_rows::PayloadParams;
+use std::alloc::{AllocError, Global};
+
+fn locked_at(rows: &[PayloadParams], pt: Pt) -> Option<PayloadParams>
+    ensures { result ≡ find (λ row. row.locked && (row.pt == pt)) rows.now }
+{
+    rows.iter()
+        .copied()
+        .find(|row| row.is_locked() && row.pt().get() == pt.get())
+}
+
+/// The locked row of a type, if there is one.
+fn locked_row(rows: &[PayloadParams], pt: Option<Pt>) -> Option<PayloadParams>
+    ensures { result ≡ locked_row rows.now pt }
+{
+    match pt {
+        Some(pt) => locked_at(rows, pt),
+        None => None,
+    }
+}
+
+/// Whether the answer lists a row for an offered one.
+#[tactic(auto, unfolding(crate::specs::InCommon::is_answered))]
+fn is_answered(config: &CodecConfig, dir: Direction, offered: &PayloadParams) -> bool
+    ensures { result ≡ is_answered config.now.rows (receives dir) offered.now }
+{
+    locked_row(config.params(), config.sdp_match_remote(*offered, dir)).is_some()
+}
+
+fn is_any_answered(config: &CodecConfig, dir: Direction, offered: &[PayloadParams]) -> bool
+    ensures { result ≡ list_any (is_answered config.now.rows (receives dir)) offered.now }
+{
+    offered.iter().any(|row| is_answered(config, dir, row))
+}
+
+/// Whether the answer would list a row for a section, if the rounds leave these rows.
+fn answers_some(config: &CodecConfig, section: &Section) -> bool
+    ensures { result ≡ list_any (is_answered config.now.rows (receives section.now.dir)) section.now.rows }
+{
+    is_any_answered(config, section.dir, section.rows.as_slice())
+}
+
+/// Whether it would list none.
+fn answers_none(config: &CodecConfig, section: &Section) -> bool
+    ensures { result ≡ answers_none config.now.rows section.now }
+{
+    !answers_some(config, section)
+}
+
+/// The rows after the rounds with these sections.
+fn after_rounds(config: &CodecConfig, sections: &[Section]) -> Result<CodecConfig, RoundError>
+    ensures rows { IfOk result (λ c. rounds (map remote_of sections.now) config.now.rows ≡ Ok c.rows) }
+    ensures refused { IfErr result
+        (λ e. e ≢ Memory → rounds (map remote_of sections.now) config.now.rows ≡ Err e) }
+{
+    let mut after = config.clone()?;
+    for section in sections {
+        after.round(section.rows.as_slice(), section.dir)?;
+    }
+    Ok(after)
+}
+
+/// The names of the sections to which the answer would list no row, if the rounds leave these rows.
+fn names_none(
+    alloc: Global,
+    config: &CodecConfig,
+    sections: &[Section],
+) -> Result<Vec<Mid>, AllocError>
+    ensures { IfOk result
+        (λ names. names.items ≡ map (λ s. s.mid) (filter (answers_none config.now.rows) sections.now)) }
+{
+    let mut names = Vec::new(alloc);
+    for section in sections {
+        if answers_none(config, section) {
+            names.push(section.mid)?;
+        }
+    }
+    Ok(names)
+}
+
+/// The names of the sections that have no row in common with an end of this config.
+fn names_without(
+    alloc: Global,
+    config: &CodecConfig,
+    sections: &[Section],
+) -> Result<Vec<Mid>, AllocError>
+    ensures { IfOk result (λ names. names.items ≡ names_without config.now.rows sections.now) }
+{
+    match after_rounds(config, sections) {
+        Ok(after) => names_none(alloc, &after, sections),
+        Err(RoundError::Memory) => Err(AllocError),
+        Err(_) => Ok(Vec::new(alloc)),
+    }
+}
+
+fn all_read(alloc: Global, lines: &[MediaLine]) -> Result<Vec<Section>, AllocError>
+    ensures { IfOk result (λ sections. sections.items ≡ map section_of lines.now) }
+{
+    let mut sections = Vec::new(alloc);
+    for line in lines {
+        sections.push(Section::read(alloc, line)?)?;
+    }
+    Ok(sections)
+}
+
+/// What the sections of a text say to an end; nothing, if it can't read the text.
+fn said_to_end(alloc: Global, text: &str) -> Result<Vec<Section>, AllocError>
+    ensures { IfOk result (λ sections. SaysToEnd text.now sections.items) }
+{
+    match sdp_parser(alloc, text) {
+        Ok((sdp, _)) => all_read(alloc, sdp.media_lines.as_slice()),
+        Err(SdpError::Memory) => Err(AllocError),
+        Err(_) => Ok(Vec::new(alloc)),
+    }
+}
+
+/// The names of the sections that have no row in common with an end of this config, of what it is handed of an offer.
+fn lacking(
+    alloc: Global,
+    plan: &mut Plan,
+    config: &CodecConfig,
+    offer: &str,
+    wishes: &[Wish],
+) -> Result<Vec<Mid>, BrowserError>
+    ensures lacks { IfOk result
+        (λ names. Lacks offer.now config.now.rows wishes.now plan.old plan.new names.items) }
+    ensures refused { IfErr result (λ e. RefusesOffer offer.now plan.old wishes.now e) }
+{
+    let handed = offer_handed(alloc, plan, offer, wishes)?;
+    let sections = said_to_end(alloc, handed.as_str())?;
+    Ok(names_without(alloc, config, sections.as_slice())?)
+}
+
+/// Whether it is the place of the section of one of these names.
+#[tactic(auto, unfolding(crate::specs::InCommon::has_named))]
+fn has_named(names: &NameSet<'_>, place: &Place) -> bool
+    ensures { result ≡ has_named names.now place.now }
+{
+    match place {
+        Place::Kept(name) => names.has(*name),
+        Place::Taken(_) | Place::Free(_) => false,
+    }
+}
+
+fn is_any_named(names: &NameSet<'_>, places: &[Place]) -> bool
+    ensures { result ≡ list_any (has_named names.now) places.now }
+{
+    places.iter().any(|place| has_named(names, place))
+}
+
+fn begins_with_named(names: &NameSet<'_>, places: &[Place]) -> bool
+    ensures { result ≡ begins_with_named names.now places.now }
+{
+    match places {
+        [place, ..] => has_named(names, place),
+        [] => false,
+    }
+}
+
+fn after_first(places: &[Place]) -> &[Place]
+    ensures { result.now ≡ after_first places.now }
+{
+    match places {
+        [_, rest @ ..] => rest,
+        [] => places,
+    }
+}
+
+fn left_of(is_rejected: bool, wish: Wish) -> Wish
+    ensures { result ≡ left_of is_rejected wish }
+{
+    if is_rejected {
+        return Wish::Reject;
+    }
+    wish
+}
+
+/// The wishes, place by place: those of sections of these names are rejected.
+fn without_named(
+    alloc: Global,
+    names: &NameSet<'_>,
+    places: &[Place],
+    wishes: Vec<Wish>,
+) -> Result<Vec<Wish>, AllocError>
+    ensures { IfOk result (λ w. w.items ≡ without_named names.now places.now wishes.items) }
+{
+    let mut left = Vec::new(alloc);
+    let mut rest = places;
+    for wish in wishes {
+        left.push(left_of(begins_with_named(names, rest), wish))?;
+        rest = after_first(rest);
+    }
+    Ok(left)
+}
+
+/// Rejects the sections without a row in common of a tidied offer; and whether there are some.
+fn reject_lacking(
+    alloc: Global,
+    plan: &Plan,
+    config: &CodecConfig,
+    offer: &str,
+    wishes: Vec<Wish>,
+) -> Result<(Vec<Wish>, bool), BrowserError>
+    ensures some { IfOk result
+        (λ r. r.1 ≡ true → Rejects offer.now plan.now config.now.rows wishes.items r.0.items) }
+    ensures none { IfOk result
+        (λ r. r.1 ≡ false → HasRows offer.now plan.now config.now.rows r.0.items) }
+    ensures same { IfOk result (λ r. r.1 ≡ false → r.0.items ≡ wishes.items) }
+    ensures refused { IfErr result (λ e. RefusesOffer offer.now plan.now wishes.items e) }
+{
+    let mut planned = plan.clone(alloc)?;
+    let names = lacking(alloc, &mut planned, config, offer, wishes.as_slice())?;
+    let names = NameSet::of(alloc, names.as_slice())?;
+    let places = planned.places.as_slice();
+    if !is_any_named(&names, places) {
+        return Ok((wishes, false));
+    }
+    Ok((without_named(alloc, &names, places, wishes)?, true))
+}
+
+/// The same until there is none.
+#[tactic(auto, using(crate::proofs::FewerWishes::nothing_rejected, crate::proofs::FewerWishes::one_more_turn, crate::proofs::FewerWishes::in_common, crate::proofs::FewerWishes::not_in_common, crate::proofs::FewerWishes::fewer_accepted))]
+fn reject_in_turn(
+    alloc: Global,
+    plan: &Plan,
+    config: &CodecConfig,
+    offer: &str,
+    wishes: Vec<Wish>,
+) -> Result<Vec<Wish>, BrowserError>
+    ensures wishes { IfOk result
+        (λ w. AreInCommon offer.now plan.now config.now.rows wishes.items w.items) }
+    ensures refused { IfErr result
+        (λ e. RefusesInCommon offer.now plan.now config.now.rows wishes.items e) }
+{
+    let mut left = wishes;
+    loop {
+        let (next, some) = reject_lacking(alloc, plan, config, offer, left)?;
+        if !some {
+            return Ok(next);
+        }
+        left = next;
+    }
+}
+
+/// The wishes for an offer, with those rejected whose sections have no row in common with the end (RFC 3264 6), and
+/// all others as they are, for `for_end` and `sections_for`: the sections to which the answer of an end with this
+/// config would list no row. The rounds go without what is rejected, so the offer is looked at again until there is
+/// none, at most once for each wish that accepts. The end then doesn't refuse what it is handed as `NoCommonRow`,
+/// except for a section that was stopped.
+///
+/// `config` is the end's own, as `End::config` tells it; `plan` is that from before the offer, and doesn't change.
+///
+/// # Errors
+///
+/// Those of `for_end`, by these wishes or with sections rejected: `NothingLeft` if no section has a row in common.
+#[tactic(auto, using(crate::proofs::FewerWishes::want_in_common))]
+pub fn wishes_in_common(
+    alloc: Global,
+    plan: &Plan,
+    config: &CodecConfig,
+    offer: &str,
+    wishes: Vec<Wish>,
+) -> Result<Vec<Wish>, BrowserError>
+    ensures wishes { IfOk result
+        (λ w. AreInCommon (tidied offer.now) plan.now config.now.rows wishes.items w.items) }
+    ensures refused { IfErr result
+        (λ e. RefusesInCommon (tidied offer.now) plan.now config.now.rows wishes.items e) }
+{
+    let offer = tidied(alloc, offer)?;
+    reject_in_turn(alloc, plan, config, offer.as_str(), wishes)
+}

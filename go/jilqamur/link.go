@@ -1,7 +1,0 @@
-//go:build !jilqamur_pkgconfig
-
-package jilqamur
-
-// #cgo CFLAGS: -I${SRCDIR}/include -I${SRCDIR}/../../include
-// #cgo LDFLAGS: -L${SRCDIR}/lib -L${SRCDIR}/../../crates/jilqamur/out -ljilqamur
-import "C"
