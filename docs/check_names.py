@@ -299,9 +299,9 @@ def detours_in(crate, crates):
             for owner, name in imported(text, crates - {crate}):
                 if name in handed_on(owner):
                     yield f"{where}: {name} of {owner} is defined in {handed_on(owner)[name]}"
-        is_hand_on = path.name == "Lib.antt" and crate in DOORS
+        is_depacketize_frame = path.name == "Lib.antt" and crate in DOORS
         for public, owner, file in re.findall(r"^\s*(pub )?use Rattle\.(\w+)\.specs\.(\w+)", text, re.M):
-            if public and owner != crate and owner in crates and not is_hand_on:
+            if public and owner != crate and owner in crates and not is_depacketize_frame:
                 yield f"{where}: hands on {file} of {owner}"
             if owner in crates and file not in ("declared", "contracts"):
                 if not (CRATES / owner / "specs" / f"{file}.antt").is_file():

@@ -21,7 +21,7 @@ STARTS = {
     "sdp_formats": ["SdpOffer", "SdpAnswer", "Sdp", "CodecConfig", "PayloadParams"],
     "sdp_formats_json": [],
     "rtp_media": ["End"],
-    "rtp_media_browsers": ["Plan", "Wish", "Transport"],
+    "rtp_media_browsers": ["BrowserState", "SectionRequest", "Transport"],
     "media_files": [],
 }
 ITEM = r"(?:pub(?:\(crate\))? )?(?:const )?(fn|struct|enum|trait|const|type|static) (\w+)"

@@ -283,13 +283,13 @@ static void ends(void)
     say("%u %u %u\n", jilqamur_end_close(&a), jilqamur_end_close(&b), jilqamur_end_close(&c));
 }
 
-/* A wish for a section both ways. Nothing of it is told, since it may be asked twice. */
-static void wish(jilqamur_end *end)
+/* A request for a section both ways. Nothing of it is told, since it may be asked twice. */
+static void request(jilqamur_end *end)
 {
     const uint32_t ssrc = 54;
     bool was_cut = said->is_cut;
     said->is_cut = true;
-    ASK("wish", jilqamur_end_wish(end, true, true, true, &ssrc, 1));
+    ASK("request", jilqamur_end_request(end, true, true, true, &ssrc, 1));
     said->is_cut = was_cut;
 }
 
@@ -304,7 +304,7 @@ static void offer_audio(jilqamur_end *end)
 }
 
 /* Makes a text of an end one for a browser. */
-static size_t dress(jilqamur_end *end, uint8_t *text, uint8_t setup)
+static size_t add_transport(jilqamur_end *end, uint8_t *text, uint8_t setup)
 {
     const uint8_t digest[] = {1, 2, 3};
     size_t len = 0;
@@ -347,13 +347,13 @@ static void browsers(void)
     ASK_AFTER("make", draft_again(&b), jilqamur_end_make(&b, 2));
     offer_audio(&a);
     ASK_AFTER("offer", offer_audio(&a), jilqamur_end_offer(&a));
-    size_t len = dress(&a, text, JILQAMUR_ACTPASS);
+    size_t len = add_transport(&a, text, JILQAMUR_ACTPASS);
     must(len + sizeof candidate < sizeof text, "too long an offer");
     memcpy(text + len, candidate, sizeof candidate - 1);
-    wish(&b);
-    ASK_AFTER("answer_browser", wish(&b), jilqamur_end_answer_browser(&b, text, len + sizeof candidate - 1));
+    request(&b);
+    ASK_AFTER("answer_browser", request(&b), jilqamur_end_answer_browser(&b, text, len + sizeof candidate - 1));
     told(&b);
-    len = dress(&b, text, JILQAMUR_PASSIVE);
+    len = add_transport(&b, text, JILQAMUR_PASSIVE);
     ASK("accept_browser", jilqamur_end_accept_browser(&a, text, len));
     say("%u %u\n", jilqamur_end_close(&a), jilqamur_end_close(&b));
 }

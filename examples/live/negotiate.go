@@ -14,7 +14,7 @@ type place struct {
 	isMedia bool // whether it is audio or video, and wasn't stopped
 }
 
-// placesOf are the sections of a text in order. Wishes go by place.
+// placesOf are the sections of a text in order. Requests go by place.
 func placesOf(text string) (places []place) {
 	for _, line := range strings.Split(text, "\n") {
 		line = strings.TrimSpace(line)
@@ -42,7 +42,7 @@ func placesOf(text string) (places []place) {
 
 // answer answers the browser's offer.
 func (p *peer) answer(offer string) (string, error) {
-	var wishes []jilqamur.Wish
+	var requests []jilqamur.SectionRequest
 	fresh := map[string]*section{}
 	for _, at := range placesOf(offer) {
 		s := p.sections[at.mid]
@@ -51,13 +51,13 @@ func (p *peer) answer(offer string) (string, error) {
 			fresh[at.mid] = s
 		}
 		if s == nil || !at.isMedia || s.isStopped {
-			wishes = append(wishes, jilqamur.Wish{Reject: true})
+			requests = append(requests, jilqamur.SectionRequest{Reject: true})
 			continue
 		}
 		ssrcs, repairs := s.names()
-		wishes = append(wishes, jilqamur.Wish{Direction: s.direction, SSRCs: ssrcs, Repairs: repairs})
+		requests = append(requests, jilqamur.SectionRequest{Direction: s.direction, SSRCs: ssrcs, Repairs: repairs})
 	}
-	own, err := p.end.AnswerBrowser(offer, wishes...)
+	own, err := p.end.AnswerBrowser(offer, requests...)
 	if err != nil {
 		return "", err
 	}
@@ -75,7 +75,7 @@ func (p *peer) answer(offer string) (string, error) {
 	if err := p.restart(); err != nil {
 		return "", err
 	}
-	return p.dressed(own, jilqamur.Passive)
+	return p.with_transport(own, jilqamur.Passive)
 }
 
 // restart begins a new ICE session if the browser's offer does (RFC 8839, section 4.4.1.1.1).
@@ -99,7 +99,7 @@ func (p *peer) offer() (string, error) {
 	if err != nil {
 		return "", err
 	}
-	return p.dressed(own, jilqamur.ActPass)
+	return p.with_transport(own, jilqamur.ActPass)
 }
 
 // wanted are the sections of an offer.
@@ -157,8 +157,8 @@ func (p *peer) withdraw() error {
 	return nil
 }
 
-// dressed makes a text of the end one for the browser.
-func (p *peer) dressed(own string, setup jilqamur.Setup) (string, error) {
+// with_transport makes a text of the end one for the browser.
+func (p *peer) with_transport(own string, setup jilqamur.Setup) (string, error) {
 	transport, err := p.transport.described(setup)
 	if err != nil {
 		return "", err

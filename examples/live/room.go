@@ -143,7 +143,7 @@ func (p *peer) hear(datagram []byte, now time.Time) {
 	}
 }
 
-// askedAgain sends a datagram again, and askedForKeyFrame hands the wish on to whoever encodes.
+// askedAgain sends a datagram again, and askedForKeyFrame hands the request on to whoever encodes.
 func (r *room) askedAgain(p *peer, ssrc uint32, number uint16, now time.Time) {
 	for _, s := range p.sections {
 		if s.out != nil && s.out.ssrc == ssrc && s.out.isOpen {

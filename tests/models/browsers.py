@@ -2,9 +2,9 @@
 """Holds the stored run of `browser_lines` beside what the standards say of answers, of offers and of rejected sections.
 
 Each text that a browser gets for its offer has the offer's sections in their order and under their names (RFC 3264 6,
-RFC 8829 5.3.1). One that the end never sees, as it is of data, of port 0, isn't wished for, or has no codec in common,
+RFC 8829 5.3.1). One that the end never sees, as it is of data, of port 0, isn't requested for, or has no codec in common,
 is rejected: of port 0, without direction both ways, without lines of the transport, and in no bundle (RFC 9143 7.3.3).
-Each other one has a direction that the offer and the wish allow (RFC 3264 6.1), types of the offer alone, in its order
+Each other one has a direction that the offer and the request allow (RFC 3264 6.1), types of the offer alone, in its order
 and with the meaning that they have there (RFC 3264 6.1), extensions of the offer alone (RFC 8285 6), and the
 transport's lines behind its name. An end's own offer has the sections of the last text in their places, except where
 the last exchange has port 0: there are the new ones, in order, and those that are left follow (RFC 3264 8.1, RFC 8829
@@ -63,8 +63,8 @@ def in_use(offered, bundled):
     return kind in ("audio", "video") and (port != "0" or (named and bool(values(offered, "bundle-only"))))
 
 
-def wishes_of(command, words, offered, bundled):
-    """The wish for each section: by place, or, of `ask`, by its name or kind."""
+def requests_of(command, words, offered, bundled):
+    """The request for each section: by place, or, of `ask`, by its name or kind."""
     if command == "offer":
         return words + [None] * len(offered)
     asked = [word.split("=", 1) for word in words]
@@ -78,10 +78,10 @@ def wishes_of(command, words, offered, bundled):
     return given
 
 
-def is_seen(offered, wish, bundled):
+def is_seen(offered, request, bundled):
     """Whether the end sees the section of an offer."""
     has_codec = any(meaning.split("/")[0] in CODECS for meaning in meanings(offered).values())
-    return in_use(offered, bundled) and wish not in (None, "reject") and has_codec
+    return in_use(offered, bundled) and request not in (None, "reject") and has_codec
 
 
 def faults_of_rejected(given):
@@ -100,10 +100,10 @@ def faults_of_transport(given):
         yield "the transport doesn't stand behind its name"
 
 
-def faults_of_kept(offered, wish, given):
+def faults_of_kept(offered, request, given):
     """What a section that is answered must not say."""
     yield from faults_of_transport(given)
-    (they_send, they_receive), (sends, receives) = way(offered), WAYS[wish.split(":")[0]]
+    (they_send, they_receive), (sends, receives) = way(offered), WAYS[request.split(":")[0]]
     if way(given) != (sends and they_receive, receives and they_send):
         yield "another direction"
     there, here = meanings(offered), meanings(given)
@@ -124,10 +124,10 @@ def faults_of_sections(command, words, head, offered, given):
     if [values(lines, "mid") for lines in offered] != [values(lines, "mid") for lines in given]:
         yield "other sections, or in another order"
         return
-    wishes = wishes_of(command, words, offered, bundled)
-    for there, wish, here in zip(offered, wishes, given):
-        if is_seen(there, wish, bundled):
-            yield from faults_of_kept(there, wish, here)
+    requests = requests_of(command, words, offered, bundled)
+    for there, request, here in zip(offered, requests, given):
+        if is_seen(there, request, bundled):
+            yield from faults_of_kept(there, request, here)
         else:
             yield from faults_of_rejected(here)
 

@@ -24,9 +24,9 @@ static void answer(jilqamur_end *end, uint8_t *text, size_t len)
     uint8_t digest[32];
     for (size_t i = 0; i < sizeof digest; i++)
         digest[i] = 0x5a;
-    check(jilqamur_end_wish(end, true, true, true, &audio, 1));
+    check(jilqamur_end_request(end, true, true, true, &audio, 1));
     check(jilqamur_end_section_repair(end, video, repairs));
-    check(jilqamur_end_wish(end, true, true, true, &video, 1));
+    check(jilqamur_end_request(end, true, true, true, &video, 1));
     check(jilqamur_end_answer_browser(end, text, len));
     check(jilqamur_end_text(end, text, MOST_TEXT, &len));
     check(jilqamur_end_for_browser(end, text, len, JILQAMUR_PASSIVE, false, JILQAMUR_TEXT("F7gI"),

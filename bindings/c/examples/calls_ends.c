@@ -365,8 +365,8 @@ static void browsers(void)
     memcpy(at, candidate, strlen(candidate));
     len += strlen(candidate);
     say("answer", jilqamur_end_answer_browser(&b, text, len));
-    check(jilqamur_end_wish(&b, true, true, true, &ssrc, 1));
-    check(jilqamur_end_wish(&b, true, false, true, &video, 1));
+    check(jilqamur_end_request(&b, true, true, true, &ssrc, 1));
+    check(jilqamur_end_request(&b, true, false, true, &video, 1));
     check(jilqamur_end_answer_browser(&b, text, len));
     say_remote(&b);
     for_browser(&b, JILQAMUR_ACTPASS, "efgh");

@@ -475,7 +475,7 @@ static void of_drafts(jilqamur_end *end)
         break;
     case 6:
     case 7:
-        CALL(end_wish, end, below(4) > 0, flip(), flip(), SSRCS(ssrcs));
+        CALL(end_request, end, below(4) > 0, flip(), flip(), SSRCS(ssrcs));
         break;
     default:
         CALL(end_section, end, mid.at, mid.len, flip(), flip(), flip(), SSRCS(ssrcs));
@@ -707,7 +707,7 @@ static void meet(void)
         len += strlen(candidate);
         memcpy(texts[1 + turn].bytes, text, texts[1 + turn].len = len);
         if (turn == 0) {
-            CALL(end_wish, &ends[1], true, true, true, (const uint32_t[]){45}, 1);
+            CALL(end_request, &ends[1], true, true, true, (const uint32_t[]){45}, 1);
             CALL(end_answer_browser, &ends[1], text, len);
         } else {
             CALL(end_accept_browser, &ends[0], text, len);

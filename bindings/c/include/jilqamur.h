@@ -453,7 +453,7 @@ uint32_t jilqamur_end_extension(jilqamur_end *end, uint8_t id, const uint8_t *ur
  * JILQAMUR_MEMORY, and the end stays. The draft is empty afterwards, refused or not. */
 uint32_t jilqamur_end_make(jilqamur_end *end, uint64_t session);
 
-/* Lets the SSRC repair send again what ssrc sends (RFC 4588 8.3), in the section or wish that is put next.
+/* Lets the SSRC repair send again what ssrc sends (RFC 4588 8.3), in the section or request that is put next.
  * JILQAMUR_MEMORY, and nothing has changed. */
 uint32_t jilqamur_end_section_repair(jilqamur_end *end, uint32_t ssrc, uint32_t repair);
 
@@ -489,16 +489,16 @@ uint32_t jilqamur_end_withdraw(jilqamur_end *end);
  * offer or answer that is not refused, and has no 0 at its end. */
 uint32_t jilqamur_end_text(jilqamur_end *end, uint8_t *buffer, size_t len, size_t *needed);
 
-/* Puts a wish for the next section of a browser's offer after those before: whether it is answered or rejected, and
+/* Puts a request for the next section of a browser's offer after those before: whether it is answered or rejected, and
  * of one that is answered which way media shall flow as this end sees it, and the SSRCs that this end sends under,
- * with the repairs that were put before it, which each wish uses up. A section without a wish is rejected.
+ * with the repairs that were put before it, which each request uses up. A section without a request is rejected.
  * JILQAMUR_MEMORY, and nothing has changed. */
-uint32_t jilqamur_end_wish(jilqamur_end *end, bool is_accepted, bool sends, bool receives, const uint32_t *ssrcs,
+uint32_t jilqamur_end_request(jilqamur_end *end, bool is_accepted, bool sends, bool receives, const uint32_t *ssrcs,
                            size_t count);
 
-/* Answers a browser's offer of len bytes by the wishes, which it uses up (RFC 8829 5.3.1): jilqamur_end_text fetches
+/* Answers a browser's offer of len bytes by the requests, which it uses up (RFC 8829 5.3.1): jilqamur_end_text fetches
  * the text of the answer, which jilqamur_end_for_browser makes one for the browser. The end never sees sections of
- * data, of port 0 or without a wish, nor those that have no row in common with it (RFC 3264 6); what is taken out is
+ * data, of port 0 or without a request, nor those that have no row in common with it (RFC 3264 6); what is taken out is
  * remembered, and so is what the offer tells of the browser's transport. JILQAMUR_NOT_TEXT, JILQAMUR_NOT_MADE without an end; else the first that holds of
  * JILQAMUR_TEXT_UNREADABLE, JILQAMUR_REST_UNREAD, JILQAMUR_MID_NOT_KEPT, JILQAMUR_MID_TWICE, JILQAMUR_SEVERAL_BUNDLES,
  * JILQAMUR_OUTSIDE_BUNDLE, JILQAMUR_NOTHING_LEFT and JILQAMUR_KEYS_ALONE; else JILQAMUR_OUT_OF_RANGE as at

@@ -3,9 +3,9 @@ package jilqamur
 // #include "jilqamur.h"
 import "C"
 
-// A Wish is what an end wants of a section of a browser's offer.
-type Wish struct {
-	Reject    bool      // whether the section is rejected, as one without a wish is
+// A SectionRequest is what an end wants of a section of a browser's offer.
+type SectionRequest struct {
+	Reject    bool      // whether the section is rejected, as one without a request is
 	Direction Direction // which way media shall flow, as this end sees it
 	SSRCs     []uint32  // those that this end sends under
 	Repairs   []Repair  // each repairs another one of SSRCs, and By is none of them
@@ -43,14 +43,14 @@ type Remote struct {
 	Lite        bool            // whether the browser only answers connectivity checks
 }
 
-// AnswerBrowser is the text of the end's answer to a browser's offer (RFC 8829, section 5.3.1), by a wish for each
+// AnswerBrowser is the text of the end's answer to a browser's offer (RFC 8829, section 5.3.1), by a request for each
 // section in order; [End.ForBrowser] makes it one for the browser. The end never sees sections of data, of port 0 or
-// without a wish, nor those that have no row in common with it. It returns [ErrNotText], or the first that applies of [ErrTextUnreadable], [ErrRestUnread],
+// without a request, nor those that have no row in common with it. It returns [ErrNotText], or the first that applies of [ErrTextUnreadable], [ErrRestUnread],
 // [ErrMidNotKept], [ErrMidTwice], [ErrSeveralBundles], [ErrOutsideBundle], [ErrNothingLeft] and [ErrKeysAlone]; else
 // what [End.Answer] returns.
-func (e *End) AnswerBrowser(offer string, wishes ...Wish) (string, error) {
-	for _, wish := range wishes {
-		if err := e.wish(wish); err != nil {
+func (e *End) AnswerBrowser(offer string, requests ...SectionRequest) (string, error) {
+	for _, request := range requests {
+		if err := e.request(request); err != nil {
 			// An answer to no text is refused, and uses up what was gathered.
 			C.jilqamur_end_answer_browser(&e.handle, &noByte, 0)
 			return "", err
@@ -63,13 +63,13 @@ func (e *End) AnswerBrowser(offer string, wishes ...Wish) (string, error) {
 	return e.text()
 }
 
-func (e *End) wish(wish Wish) error {
-	if err := e.repairs(wish.Repairs); err != nil {
+func (e *End) request(request SectionRequest) error {
+	if err := e.repairs(request.Repairs); err != nil {
 		return err
 	}
-	ssrcs, count := placeOfNumbers(wish.SSRCs)
-	sends, receives := C.bool(wish.Direction.Sends()), C.bool(wish.Direction.Receives())
-	return done(C.jilqamur_end_wish(&e.handle, C.bool(!wish.Reject), sends, receives, ssrcs, count))
+	ssrcs, count := placeOfNumbers(request.SSRCs)
+	sends, receives := C.bool(request.Direction.Sends()), C.bool(request.Direction.Receives())
+	return done(C.jilqamur_end_request(&e.handle, C.bool(!request.Reject), sends, receives, ssrcs, count))
 }
 
 // AcceptBrowser takes a browser's answer to the pending offer. It returns [ErrNotText], or the first that applies of

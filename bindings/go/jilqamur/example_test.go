@@ -71,7 +71,7 @@ func ExampleSender() {
 func ExampleEnd_AnswerBrowser() {
 	end, err := jilqamur.NewEnd(jilqamur.Config{DefaultRows: true, Session: 7})
 	check(err)
-	own, err := end.AnswerBrowser(browsersOffer, jilqamur.Wish{SSRCs: []uint32{44}})
+	own, err := end.AnswerBrowser(browsersOffer, jilqamur.SectionRequest{SSRCs: []uint32{44}})
 	check(err)
 	_, err = end.ForBrowser(own, jilqamur.Transport{Setup: jilqamur.Passive, Ufrag: "abcd",
 		Password: "passwordpasswordpassword", Digest: make([]byte, 32)})

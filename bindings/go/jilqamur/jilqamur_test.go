@@ -163,7 +163,7 @@ func TestABrowserIsAnswered(t *testing.T) {
 	own := must[string](t)(a.Offer(Section{Mid: "0", SSRCs: []uint32{44}}))
 	offer := must[string](t)(a.ForBrowser(own, transport))
 	transport.Setup, transport.Lite = Passive, true
-	own = must[string](t)(b.AnswerBrowser(offer, Wish{SSRCs: []uint32{45}, Repairs: []Repair{{45, 46}}}))
+	own = must[string](t)(b.AnswerBrowser(offer, SectionRequest{SSRCs: []uint32{45}, Repairs: []Repair{{45, 46}}}))
 	answer := must[string](t)(b.ForBrowser(own, transport))
 	if err := a.AcceptBrowser(answer); err != nil {
 		t.Fatal(err)
@@ -171,7 +171,7 @@ func TestABrowserIsAnswered(t *testing.T) {
 	equal(t, must[Remote](t)(a.Remote()), Remote{Ufrag: "abcd", Password: transport.Password,
 		Fingerprint: "sha-256 AB:CD", Setup: Some(Passive), OwnSetup: Some(Active), Trickling: true, Lite: true})
 	equal(t, must[Remote](t)(b.Remote()).OwnSetup, Some(Passive))
-	_, err := made(t, 3).AnswerBrowser(offer, Wish{Reject: true})
+	_, err := made(t, 3).AnswerBrowser(offer, SectionRequest{Reject: true})
 	refused(t, err, ErrNothingLeft)
 	_, err = b.ForBrowser(own, Transport{Setup: 9})
 	refused(t, err, ErrOutOfRange)

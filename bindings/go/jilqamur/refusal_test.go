@@ -92,7 +92,7 @@ func TestBadTextsAreRefused(t *testing.T) {
 	_, err = b.Answer("nothing", Section{Mid: "a"})
 	refused(t, err, ErrTextUnreadable)
 	refused(t, a.Accept("v=0"), ErrTextUnreadable)
-	_, err = b.AnswerBrowser("nothing", Wish{})
+	_, err = b.AnswerBrowser("nothing", SectionRequest{})
 	refused(t, err, ErrTextUnreadable)
 	_, err = a.Offer(Section{Mid: "0", SSRCs: []uint32{1}, Repairs: []Repair{{2, 3}}})
 	refused(t, err, ErrOutOfRange)

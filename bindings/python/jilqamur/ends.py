@@ -44,7 +44,7 @@ class Section:
 
 
 @dataclass(frozen=True)
-class Wish:
+class SectionRequest:
     """What an end wants of a section of a browser's offer; `None` in its place rejects the section."""
 
     direction: Direction = Direction.SENDRECV
@@ -167,13 +167,13 @@ class End(Owner):
             done(code)
         return code == Code.OK
 
-    def answer_browser(self, offer: str, wishes: Iterable[Wish | None]) -> str:
-        """The end's answer to a browser's offer, by a wish for each section; `for_browser` makes it one for the
+    def answer_browser(self, offer: str, requests: Iterable[SectionRequest | None]) -> str:
+        """The end's answer to a browser's offer, by a request for each section; `for_browser` makes it one for the
         browser. Sections without a row in common are rejected alone."""
-        for wish in wishes:
-            wanted = wish or Wish(Direction.INACTIVE)
+        for request in requests:
+            wanted = request or SectionRequest(Direction.INACTIVE)
             self._repairs(wanted.repairs)
-            done(lib.end_wish(self._at, wish is not None, *wanted.direction.value, *numbers(wanted.ssrcs)))
+            done(lib.end_request(self._at, request is not None, *wanted.direction.value, *numbers(wanted.ssrcs)))
         done(lib.end_answer_browser(self._at, *text(offer)))
         return self._text()
 

@@ -159,7 +159,7 @@ CALLS: dict[str, list[Any]] = {
     "end_accept": [HANDLE, *TEXT],
     "end_withdraw": [HANDLE],
     "end_text": [HANDLE, *OUT],
-    "end_wish": [HANDLE, c_bool, c_bool, c_bool, *SSRCS],
+    "end_request": [HANDLE, c_bool, c_bool, c_bool, *SSRCS],
     "end_answer_browser": [HANDLE, *TEXT],
     "end_accept_browser": [HANDLE, *TEXT],
     "end_for_browser": [HANDLE, *TEXT, c_uint8, c_bool, *TEXT, *TEXT, *TEXT, *TEXT],

@@ -1,7 +1,7 @@
 //! A browser's call to the last line: answers each of the offers in the files that are named, and says after each which
 //! sections are agreed and which streams are open.
 
-use jilqamur::{AgreedSection, Direction, End, EndError, MIN_HELD, Reason, Setup, StreamParams, Transport, Wish};
+use jilqamur::{AgreedSection, Direction, End, EndError, MIN_HELD, Reason, Setup, StreamParams, Transport, SectionRequest};
 use std::collections::BTreeMap;
 use std::error::Error;
 
@@ -46,16 +46,16 @@ impl Call {
             let ssrc = 1000 + 2 * self.sources.len() as u32;
             self.sources.entry(mid.into()).or_insert(([ssrc], [(ssrc, ssrc + 1)]));
         }
-        let wish = |(kind, mid): (&str, &str)| {
+        let request = |(kind, mid): (&str, &str)| {
             let (ssrcs, pairs) = &self.sources[mid];
             let repairs = if kind == "video" { &pairs[..] } else { &[] };
             match kind {
-                "audio" | "video" => Wish::Accept { direction: Direction::SendRecv, ssrcs, repairs },
-                _ => Wish::Reject,
+                "audio" | "video" => SectionRequest::Accept { direction: Direction::SendRecv, ssrcs, repairs },
+                _ => SectionRequest::Reject,
             }
         };
-        let wishes: Vec<Wish<'_>> = sections(offer).map(wish).collect();
-        let answer = self.end.answer_browser(offer, &wishes)?;
+        let requests: Vec<SectionRequest<'_>> = sections(offer).map(request).collect();
+        let answer = self.end.answer_browser(offer, &requests)?;
         self.end.for_browser(&answer, &TRANSPORT)
     }
 

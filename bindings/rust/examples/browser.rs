@@ -1,15 +1,15 @@
 //! Answers a browser's offer, which it reads, of audio, video and data: what the browser gets, and what its offer tells
 //! of its transport.
 
-use jilqamur::{Direction, End, EndError, Setup, Transport, Wish};
+use jilqamur::{Direction, End, EndError, Setup, Transport, SectionRequest};
 use std::io::{self, Read};
 
 /// The digest of the certificate; a program has its own.
 const DIGEST: [u8; 32] = [0x5a; 32];
 
-/// A wish for both ways, whose datagrams are sent again under another SSRC.
-fn both_ways<'a>(ssrcs: &'a [u32], repairs: &'a [(u32, u32)]) -> Wish<'a> {
-    Wish::Accept { direction: Direction::SendRecv, ssrcs, repairs }
+/// A request for both ways, whose datagrams are sent again under another SSRC.
+fn both_ways<'a>(ssrcs: &'a [u32], repairs: &'a [(u32, u32)]) -> SectionRequest<'a> {
+    SectionRequest::Accept { direction: Direction::SendRecv, ssrcs, repairs }
 }
 
 fn end_of_defaults() -> Result<End, EndError> {

@@ -4,7 +4,7 @@
 use jilqamur::{
     Depacketizer, Direction, End, EndError, ExtensionIds, FaultyLine, Format, ForwardedPacket, Forwarder, Header, Kind,
     MIN_HELD, PacketInfo, Packetizer, PacketizerParams, Received, Receiver, Row, Section, Sender, SenderParams, Setup,
-    StreamParams, Transport, Unit, Values, Window, Wish,
+    StreamParams, Transport, Unit, Values, Window, SectionRequest,
 };
 use std::error::Error;
 use std::fmt::Display;
@@ -607,11 +607,11 @@ fn browsers() -> Done {
     let offer = for_browser(&mut a, &own, Setup::ActPass, "abcd").ok_or("no offer")?;
     let offer = offer.replace("a=mid:a\r\n", candidate);
     say("answer", &b.answer_browser(&offer, &[]));
-    let wishes = [
-        Wish::Accept { direction: Direction::SendRecv, ssrcs: &[30], repairs: &[] },
-        Wish::Accept { direction: Direction::RecvOnly, ssrcs: &[31], repairs: &[] },
+    let requests = [
+        SectionRequest::Accept { direction: Direction::SendRecv, ssrcs: &[30], repairs: &[] },
+        SectionRequest::Accept { direction: Direction::RecvOnly, ssrcs: &[31], repairs: &[] },
     ];
-    let own = b.answer_browser(&offer, &wishes)?;
+    let own = b.answer_browser(&offer, &requests)?;
     say_remote(&b)?;
     for_browser(&mut b, &own, Setup::ActPass, "efgh");
     let answer = for_browser(&mut b, &own, Setup::Passive, "efgh").ok_or("no answer")?;

@@ -11,7 +11,7 @@ use std::ptr;
 ///
 /// ```
 /// # use jilqamur::{Kind, Section, Setup, Transport};
-/// use jilqamur::{Direction, End, Wish};
+/// use jilqamur::{Direction, End, SectionRequest};
 /// # let mut browser = End::builder().codec("opus", 111).session(1).build()?;
 /// # let direction = Direction::SendRecv;
 /// # let audio = Section { mid: "0", kind: Kind::Audio, direction, ssrcs: &[44], repairs: &[] };
@@ -22,13 +22,13 @@ use std::ptr;
 /// # };
 /// # let offer = browser.for_browser(&offered, &transport)?;
 /// let mut end = End::builder().codec("opus", 111).session(2).build()?;
-/// let wish = Wish::Accept { direction: Direction::RecvOnly, ssrcs: &[], repairs: &[] };
-/// end.answer_browser(&offer, &[wish])?;
+/// let request = SectionRequest::Accept { direction: Direction::RecvOnly, ssrcs: &[], repairs: &[] };
+/// end.answer_browser(&offer, &[request])?;
 /// assert_eq!(end.agreed_sections()[0].ssrcs, [44]); // the browser sends under it
 /// # Ok::<(), jilqamur::EndError>(())
 /// ```
 #[derive(Clone, Copy, Debug)]
-pub enum Wish<'a> {
+pub enum SectionRequest<'a> {
     /// The end answers the section.
     Accept {
         /// Which way media shall flow, as the end sees it.
@@ -38,7 +38,7 @@ pub enum Wish<'a> {
         /// Pairs of one of them and the SSRC under which its datagrams are sent again (RFC 4588 8.3).
         repairs: &'a [(u32, u32)],
     },
-    /// The section is rejected, as one without a wish is.
+    /// The section is rejected, as one without a request is.
     Reject,
 }
 
@@ -72,7 +72,7 @@ impl Setup {
 ///
 /// ```
 /// # use jilqamur::{Kind, Section};
-/// use jilqamur::{Direction, End, Setup, Transport, Wish};
+/// use jilqamur::{Direction, End, Setup, Transport, SectionRequest};
 /// # let mut browser = End::builder().codec("opus", 111).session(1).build()?;
 /// # let direction = Direction::SendRecv;
 /// # let audio = Section { mid: "0", kind: Kind::Audio, direction, ssrcs: &[44], repairs: &[] };
@@ -83,8 +83,8 @@ impl Setup {
 /// # };
 /// # let offer = browser.for_browser(&offered, &transport)?;
 /// # let mut end = End::builder().codec("opus", 111).session(2).build()?;
-/// let wish = Wish::Accept { direction: Direction::RecvOnly, ssrcs: &[], repairs: &[] };
-/// let answer = end.answer_browser(&offer, &[wish])?;
+/// let request = SectionRequest::Accept { direction: Direction::RecvOnly, ssrcs: &[], repairs: &[] };
+/// let answer = end.answer_browser(&offer, &[request])?;
 /// let transport = Transport {
 ///     ufrag: "K7Q2",
 ///     password: "p1bYWCCmXlTzO4uD0mJ3rQ",
@@ -116,7 +116,7 @@ pub struct Transport<'a> {
 ///
 /// ```
 /// # use jilqamur::{Kind, Section, Transport};
-/// use jilqamur::{Direction, End, Setup, Wish};
+/// use jilqamur::{Direction, End, Setup, SectionRequest};
 /// # let mut browser = End::builder().codec("opus", 111).session(1).build()?;
 /// # let direction = Direction::SendRecv;
 /// # let audio = Section { mid: "0", kind: Kind::Audio, direction, ssrcs: &[44], repairs: &[] };
@@ -127,8 +127,8 @@ pub struct Transport<'a> {
 /// # };
 /// # let offer = browser.for_browser(&offered, &transport)?;
 /// # let mut end = End::builder().codec("opus", 111).session(2).build()?;
-/// # let wish = Wish::Accept { direction: Direction::RecvOnly, ssrcs: &[], repairs: &[] };
-/// end.answer_browser(&offer, &[wish])?;
+/// # let request = SectionRequest::Accept { direction: Direction::RecvOnly, ssrcs: &[], repairs: &[] };
+/// end.answer_browser(&offer, &[request])?;
 /// let remote = end.remote()?;
 /// assert_eq!((remote.ufrag.as_deref(), remote.setup), (Some("F7gI"), Some(Setup::ActPass)));
 /// # Ok::<(), jilqamur::EndError>(())
@@ -167,8 +167,8 @@ fn text_of(mut call: impl FnMut(*mut u8, usize, &mut usize) -> u32) -> Result<Op
 }
 
 impl End {
-    fn wishes(&mut self, wishes: &[Wish<'_>]) -> Result<(), EndError> {
-        let gathered = wishes.iter().try_for_each(|wish| self.wish(wish));
+    fn requests(&mut self, requests: &[SectionRequest<'_>]) -> Result<(), EndError> {
+        let gathered = requests.iter().try_for_each(|request| self.request(request));
         if gathered.is_err() {
             // An answer to no text is refused, and uses up what was gathered.
             // SAFETY: the handle is open, and no byte is read.
@@ -177,27 +177,27 @@ impl End {
         gathered
     }
 
-    fn wish(&mut self, wish: &Wish<'_>) -> Result<(), EndError> {
-        let (is_accepted, direction, ssrcs, repairs) = match *wish {
-            Wish::Accept { direction, ssrcs, repairs } => (true, direction, ssrcs, repairs),
-            Wish::Reject => (false, Direction::Inactive, &[][..], &[][..]),
+    fn request(&mut self, request: &SectionRequest<'_>) -> Result<(), EndError> {
+        let (is_accepted, direction, ssrcs, repairs) = match *request {
+            SectionRequest::Accept { direction, ssrcs, repairs } => (true, direction, ssrcs, repairs),
+            SectionRequest::Reject => (false, Direction::Inactive, &[][..], &[][..]),
         };
         let (sends, receives) = direction.flow();
         self.repairs(repairs)?;
         // SAFETY: the handle is open, and pointer and length are those of one slice.
-        done(unsafe { sys::jilqamur_end_wish(self.0.raw(), is_accepted, sends, receives, ssrcs.as_ptr(), ssrcs.len()) })
+        done(unsafe { sys::jilqamur_end_request(self.0.raw(), is_accepted, sends, receives, ssrcs.as_ptr(), ssrcs.len()) })
     }
 
-    /// The text of the end's answer to a browser's offer, by a wish for each section, in order (RFC 8829 5.3.1):
+    /// The text of the end's answer to a browser's offer, by a request for each section, in order (RFC 8829 5.3.1):
     /// [`End::for_browser`] makes it one for the browser. The end never sees sections of data, of port 0 or without a
-    /// wish, nor those that have no row in common with it (RFC 3264 6).
+    /// request, nor those that have no row in common with it (RFC 3264 6).
     ///
     /// # Errors
     /// `NotMade`; else the first that holds of `TextUnreadable`, `RestUnread`, `MidNotKept`, `MidTwice`,
-    /// `SeveralBundles`, `OutsideBundle`, `NothingLeft` and `KeysAlone`; else `OutOfRange` if the repairs of a wish
+    /// `SeveralBundles`, `OutsideBundle`, `NothingLeft` and `KeysAlone`; else `OutOfRange` if the repairs of a request
     /// aren't sound; else those of [`End::answer`]. All is unchanged.
-    pub fn answer_browser(&mut self, offer: &str, wishes: &[Wish<'_>]) -> Result<String, EndError> {
-        self.wishes(wishes)?;
+    pub fn answer_browser(&mut self, offer: &str, requests: &[SectionRequest<'_>]) -> Result<String, EndError> {
+        self.requests(requests)?;
         // SAFETY: the handle is open, and pointer and length are those of one slice.
         done(unsafe { sys::jilqamur_end_answer_browser(self.0.raw(), offer.as_ptr(), offer.len()) })?;
         Ok(self.text())

@@ -3,8 +3,8 @@
 use crate::transport::Own;
 use rtp_media::{End, EndError, ExchangeError, SectionSpec, Session, are_sound};
 use rtp_media_browsers::{
-    BrowserError, Plan, Wish, WishError, answer_for_end, for_browser, for_end, map_for_browsers,
-    rows_for_browsers, sections_for, wishes_in_common,
+    BrowserError, BrowserState, RequestError, SectionRequest, answer_for_end, for_browser, for_end,
+    map_for_browsers, requests_in_common, rows_for_browsers, sections_for,
 };
 use rtp_wire::SessionId;
 use sdp_formats_values::Setup;
@@ -17,9 +17,9 @@ pub(crate) enum CallError {
     /// The text is refused on its way between browser and end.
     #[error("{0}")]
     Browser(BrowserError),
-    /// The wishes don't fit the offer.
+    /// The requests don't fit the offer.
     #[error("{0}")]
-    Wish(WishError),
+    SectionRequest(RequestError),
     /// The end refuses it.
     #[error("the end: {0}")]
     Exchange(ExchangeError),
@@ -54,7 +54,7 @@ impl From<AllocError> for CallError {
 pub(crate) struct Call {
     alloc: Global,
     pub(crate) end: End,
-    pub(crate) plan: Plan,
+    pub(crate) state: BrowserState,
     pub(crate) own: Own,
 }
 
@@ -70,25 +70,29 @@ impl Call {
         Ok(Call {
             alloc,
             end: End::new(alloc, rows, session, map_for_browsers())?,
-            plan: Plan::new(alloc),
+            state: BrowserState::new(alloc),
             own: Own::new(alloc)?,
         })
     }
 
     /// The text the browser gets for its offer. Sections without a row in common are rejected alone. If the offer is
     /// refused, nothing changes.
-    pub(crate) fn answer(&mut self, offer: &str, wishes: Vec<Wish>) -> Result<String, CallError> {
+    pub(crate) fn answer(
+        &mut self,
+        offer: &str,
+        requests: Vec<SectionRequest>,
+    ) -> Result<String, CallError> {
         let alloc = self.alloc;
-        let wishes = wishes_in_common(alloc, &self.plan, self.end.config(), offer, wishes)?;
-        let mut plan = self.plan.clone(alloc)?;
-        let text = for_end(alloc, &mut plan, offer, wishes.as_slice())?;
-        let sections = sections_for(alloc, &plan, wishes.as_slice())?;
+        let requests = requests_in_common(alloc, &self.state, self.end.config(), offer, requests)?;
+        let mut state = self.state.clone(alloc)?;
+        let text = for_end(alloc, &mut state, offer, requests.as_slice())?;
+        let sections = sections_for(alloc, &state, requests.as_slice())?;
         if !are_sound(sections.as_slice()) {
             return Err(CallError::Unsound);
         }
         let answer = self.end.answer(text.as_str(), sections)?;
-        self.plan = plan;
-        self.dressed(answer.as_str(), self.own.setup)
+        self.state = state;
+        self.with_transport(answer.as_str(), self.own.setup)
     }
 
     /// The end's offer as the browser gets it.
@@ -97,20 +101,20 @@ impl Call {
             return Err(CallError::Unsound);
         }
         let offer = self.end.offer(sections)?;
-        self.dressed(offer.as_str(), Setup::ActPass)
+        self.with_transport(offer.as_str(), Setup::ActPass)
     }
 
-    fn dressed(&mut self, text: &str, setup: Setup) -> Result<String, CallError> {
+    fn with_transport(&mut self, text: &str, setup: Setup) -> Result<String, CallError> {
         let transport = self.own.transport(self.alloc, setup)?;
-        Ok(for_browser(self.alloc, &mut self.plan, text, &transport)?)
+        Ok(for_browser(self.alloc, &mut self.state, text, &transport)?)
     }
 
-    /// Takes the browser's answer to the end's offer. If the end refuses it, the plan is as before.
+    /// Takes the browser's answer to the end's offer. If the end refuses it, the state is as before.
     pub(crate) fn accept(&mut self, answer: &str) -> Result<String, CallError> {
-        let before = self.plan.clone(self.alloc)?;
-        let text = answer_for_end(self.alloc, &mut self.plan, answer)?;
+        let before = self.state.clone(self.alloc)?;
+        let text = answer_for_end(self.alloc, &mut self.state, answer)?;
         if let Err(error) = self.end.accept(text.as_str()) {
-            self.plan = before;
+            self.state = before;
             return Err(CallError::Exchange(error));
         }
         Ok(text)

@@ -3,10 +3,10 @@
 use crate::call::{Call, CallError};
 use crate::identity::{add_track, identity};
 use crate::remote::put_remote;
+use crate::requests::{named_requests, requests, sections};
 use crate::texts::put_result;
 use crate::transport::Own;
-use crate::wishes::{named_wishes, sections, wishes};
-use rtp_media_browsers::{for_end, wishes_for};
+use rtp_media_browsers::{for_end, requests_for};
 use rtp_wire::Mid;
 use sdp_formats_values::Setup;
 use std::fs;
@@ -27,11 +27,11 @@ pub(crate) fn answer(
         "" | "#" => {}
         "end" => *call = Call::new(alloc, name.parse::<u64>()?, words == "red")?,
         "own" => put_result(call.offer(sections(alloc, rest)?), reply),
-        "stop" => call.plan.stop(alloc, Mid::from(name))?,
-        "identity" => call.plan.identity = Some(identity(alloc, name, words)?),
-        "track" => add_track(alloc, &mut call.plan, name, words)?,
+        "stop" => call.state.stop(alloc, Mid::from(name))?,
+        "identity" => call.state.identity = Some(identity(alloc, name, words)?),
+        "track" => add_track(alloc, &mut call.state, name, words)?,
         "withdraw" => reply.put(if call.end.withdraw() { ": yes" } else { ": no" }),
-        "remote" => put_remote(&call.plan.remote, reply),
+        "remote" => put_remote(&call.state.remote, reply),
         "creds" => call.own = Own::of(alloc, name, words)?,
         "candidate" => {
             if !call.own.add_candidate(alloc, rest)? {
@@ -65,15 +65,15 @@ fn put_of_text(
     let alloc = rt.alloc();
     match command {
         "handed" => {
-            let mut plan = call.plan.clone(alloc)?;
-            let wishes = wishes(alloc, words)?;
-            let handed = for_end(alloc, &mut plan, text, wishes.as_slice());
+            let mut state = call.state.clone(alloc)?;
+            let requests = requests(alloc, words)?;
+            let handed = for_end(alloc, &mut state, text, requests.as_slice());
             put_result(handed.map_err(CallError::Browser), reply);
         }
-        "offer" => put_result(call.answer(text, wishes(alloc, words)?), reply),
-        "ask" => match wishes_for(alloc, text, named_wishes(alloc, words)?) {
-            Ok(wishes) => put_result(call.answer(text, wishes), reply),
-            Err(error) => put_result(Err(CallError::Wish(error)), reply),
+        "offer" => put_result(call.answer(text, requests(alloc, words)?), reply),
+        "ask" => match requests_for(alloc, text, named_requests(alloc, words)?) {
+            Ok(requests) => put_result(call.answer(text, requests), reply),
+            Err(error) => put_result(Err(CallError::SectionRequest(error)), reply),
         },
         "answer" => put_result(call.accept(text), reply),
         _ => reply.fault(),

@@ -1,6 +1,6 @@
 //! What a browser is told of the end.
 
-use rtp_media_browsers::{Identity, Plan, Track};
+use rtp_media_browsers::{BrowserState, Identity, Track};
 use rtp_wire::Mid;
 use sdp_formats_grammar::{Listed, Text};
 use sdp_formats_values::Msid;
@@ -23,7 +23,7 @@ pub(crate) fn identity(alloc: Global, user: &str, cname: &str) -> Result<Identit
 /// Adds the stream and the track of a section, which two words name.
 pub(crate) fn add_track(
     alloc: Global,
-    plan: &mut Plan,
+    state: &mut BrowserState,
     mid: &str,
     words: &str,
 ) -> Result<(), AllocError> {
@@ -32,7 +32,7 @@ pub(crate) fn add_track(
         stream_id: text(alloc, stream)?,
         track_id: text(alloc, track)?,
     };
-    if let Some(identity) = &mut plan.identity {
+    if let Some(identity) = &mut state.identity {
         let mid = Mid::from(mid);
         identity.tracks.push(Track { mid, msid })?;
     }

@@ -7,9 +7,9 @@ mod call;
 mod commands;
 mod identity;
 mod remote;
+mod requests;
 mod texts;
 mod transport;
-mod wishes;
 
 use call::Call;
 use commands::answer;

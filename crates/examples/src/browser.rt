@@ -3,7 +3,9 @@
 
 use anyhow::ensure;
 use rtp_media::{CodecConfig, End, Session, are_sound};
-use rtp_media_browsers::{Gathering, Plan, Transport, Wish, for_browser, for_end, sections_for};
+use rtp_media_browsers::{
+    BrowserState, Gathering, SectionRequest, Transport, for_browser, for_end, sections_for,
+};
 use rtp_wire::{Direction, ExtensionMap, SessionId, Ssrc};
 use sdp_formats::{Fingerprint, IceCreds, Listed, Setup, Text};
 use std::alloc::{AllocError, Global};
@@ -34,9 +36,9 @@ fn transport(alloc: Global) -> Result<Transport, AllocError> {
     })
 }
 
-/// Sound both ways, sent under SSRC 44. A section without a wish is rejected.
-fn wishes(alloc: Global) -> Result<Vec<Wish>, AllocError> {
-    let sound = Wish::Accept {
+/// Sound both ways, sent under SSRC 44. A section without a request is rejected.
+fn requests(alloc: Global) -> Result<Vec<SectionRequest>, AllocError> {
+    let sound = SectionRequest::Accept {
         direction: Direction::SendRecv,
         ssrcs: vec![in alloc; Ssrc::from(44)]?,
         repairs: Vec::new(alloc),
@@ -44,14 +46,19 @@ fn wishes(alloc: Global) -> Result<Vec<Wish>, AllocError> {
     Ok(vec![in alloc; sound]?)
 }
 
-/// What the browser gets for its offer. The plan lasts as long as the end.
-fn answered(alloc: Global, end: &mut End, plan: &mut Plan, offer: &str) -> anyhow::Result<String> {
-    let wishes = wishes(alloc)?;
-    let handed = for_end(alloc, plan, offer, wishes.as_slice())?;
-    let sections = sections_for(alloc, plan, wishes.as_slice())?;
+/// What the browser gets for its offer. The state lasts as long as the end.
+fn answered(
+    alloc: Global,
+    end: &mut End,
+    state: &mut BrowserState,
+    offer: &str,
+) -> anyhow::Result<String> {
+    let requests = requests(alloc)?;
+    let handed = for_end(alloc, state, offer, requests.as_slice())?;
+    let sections = sections_for(alloc, state, requests.as_slice())?;
     ensure!(are_sound(sections.as_slice()), "unsound repairs");
     let answer = end.answer(handed.as_str(), sections)?;
-    let text = for_browser(alloc, plan, answer.as_str(), &transport(alloc)?)?;
+    let text = for_browser(alloc, state, answer.as_str(), &transport(alloc)?)?;
     Ok(text)
 }
 
@@ -61,10 +68,10 @@ pub(crate) fn print_answer(rt: &HostRuntime, offer: &str) -> anyhow::Result<()> 
     let session = Session::new(alloc, SessionId::from(1));
     let rows = CodecConfig::new_with_defaults(alloc)?;
     let mut end = End::new(alloc, rows, session, ExtensionMap::standard())?;
-    let mut plan = Plan::new(alloc);
-    let text = answered(alloc, &mut end, &mut plan, offer)?;
+    let mut state = BrowserState::new(alloc);
+    let text = answered(alloc, &mut end, &mut state, offer)?;
     print!(*rt; "{text}")?;
-    if let Some(creds) = &plan.remote.creds {
+    if let Some(creds) = &state.remote.creds {
         println!(*rt; "the browser's name of ICE is {}", creds.ufrag)?;
     }
     Ok(())

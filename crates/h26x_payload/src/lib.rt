@@ -106,7 +106,7 @@ pub use payload_core_buffer::DepacketizingBuffer;
 pub use payload_core_buffer::MAX_HELD;
 pub use payload_core_buffer::MIN_HELD;
 pub use payload_core_buffer::RtpMeta;
-pub use payload_core_buffer::may_hold;
+pub use payload_core_buffer::is_valid_capacity;
 pub use payload_core_vpx::Vp8Depacketizer;
 pub use payload_core_vpx::Vp8Packetizer;
 pub use payload_core_vpx::Vp9Depacketizer;

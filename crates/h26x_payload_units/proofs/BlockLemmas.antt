@@ -1,5 +1,6 @@
 -- A start code that is looked for in blocks.
-use Rattle.std.proofs.Common.{◌≡◌, ℕ, ◌+◌, ◌-◌, ◌<◌, ◌≤◌, ◌⊎◌, inl, inr, List, Option, Some, None, MatchOption, length, arith}
+use Rattle.std.proofs.Common.{◌≡◌, ℕ, ◌+◌, ◌-◌, ◌<◌, ◌≤◌, ◌⊎◌, inl, inr, List, Option, Some, None, MatchOption, length}
+use Rattle.std.proofs.Common.{arith}
 use Rattle.std.proofs.lemmas.Bool.{cases_lt}
 use Rattle.std.proofs.lemmas.List.{get_or_past}
 use Rattle.h26x_payload_units.specs.Places.{HasCodeAt, HasNoCodeBefore, HasNoCodeBetween}
@@ -24,7 +25,8 @@ whole_by text end k none past (inr le) at = none_last text k (omega (arith, past
 -- what is found, or isn't, after places where no code begins
 pub found_behind : (text : List ℕ) (i end : ℕ) (found : Option ℕ) → HasNoCodeBefore text i → end ≡ length text - 2
     → MatchOption found (HasNoCodeBetween text i end) (λ place. HasCodeAt text place × HasNoCodeBetween text i place)
-    → MatchOption found (HasNoCodeBefore text (length text)) (λ place. HasCodeAt text place × HasNoCodeBefore text place)
+    → MatchOption found (HasNoCodeBefore text (length text)) (λ place. HasCodeAt text place
+    × HasNoCodeBefore text place)
 found_behind text i end None none is_end between =
     λ k lt at. whole_by text end k (both text i end none between) (omega (arith, is_end)) (cases_lt k end) at
 found_behind text i end (Some place) none is_end between = (between.0, both text i place none between.1)

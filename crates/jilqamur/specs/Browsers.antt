@@ -7,8 +7,8 @@ use Rattle.rtp_media_browsers.specs.Tidied.{tidied}
 use Rattle.rtp_media_browsers.specs.Wanted.{wanted_of}
 use Rattle.rtp_media_browsers.specs.declared.error.BrowserError.{BrowserError}
 use Rattle.rtp_media_browsers.specs.declared.error.BrowserError.TheVariants as error
-use Rattle.rtp_media_browsers.specs.declared.plan.Plan.{Plan}
-use Rattle.rtp_media_browsers.specs.declared.wish.Wish.{Wish}
+use Rattle.rtp_media_browsers.specs.declared.state.BrowserState.{BrowserState}
+use Rattle.rtp_media_browsers.specs.declared.request.SectionRequest.{SectionRequest}
 use Rattle.rtp_media_ends.specs.Ends.{EndState}
 use Rattle.rtp_media_exchange.specs.Refusals.{RefusesAccept, RefusesAnswer}
 use Rattle.rtp_media_exchange.specs.declared.errors.ExchangeError.{ExchangeError}
@@ -46,85 +46,93 @@ pub record IsHeldBack (text : List ℕ) (refusal : Sdp → Option BrowserError) 
   pub refused : IsRefused text refusal error
   pub number : result ≡ browser_code error
 
--- What an end with these rows is given of a browser's offer, the sections it should answer with, and the plan
--- remembered afterwards: by the wishes, with those rejected whose sections have no row in common with it (RFC 3264 6).
-pub record IsHanded (plan : Plan) (rows : List Row) (wishes : List Wish) (offer : List ℕ) (planned : Plan)
+-- What an end with these rows is given of a browser's offer, the sections it should answer with, and the state
+-- remembered afterwards: by the requests, with those rejected whose sections have no row in common with it (RFC 3264
+-- 6).
+pub record IsHanded (state : BrowserState) (rows : List Row) (requests : List SectionRequest) (offer : List ℕ)
+    (planned : BrowserState)
     (handed : List ℕ) (sections : List Wanted) : Type 0 where
-  pub left : List Wish
-  pub in_common : AreInCommon (tidied offer) plan rows wishes left
-  pub passes : OfferPasses (tidied offer) left plan planned handed
+  pub left : List SectionRequest
+  pub in_common : AreInCommon (tidied offer) state rows requests left
+  pub passes : OfferPasses (tidied offer) left state planned handed
   pub wanted : sections ≡ wanted_of planned left
 
 -- A browser's offer is refused before it reaches the end.
-pub record IsOfferHeldBack (plan : Plan) (rows : List Row) (wishes : List Wish) (offer : List ℕ) (result : ℕ)
+pub record IsOfferHeldBack (state : BrowserState) (rows : List Row) (requests : List SectionRequest) (offer : List ℕ)
+    (result : ℕ)
     : Type 0 where
   pub error : BrowserError
-  pub refused : RefusesInCommon (tidied offer) plan rows wishes error
+  pub refused : RefusesInCommon (tidied offer) state rows requests error
   pub number : result ≡ browser_code error
 
 -- The end answers it.
-pub record AnswersBrowser (e : EndState) (plan : Plan) (wishes : List Wish) (offer text : List ℕ) (planned : Plan)
+pub record AnswersBrowser (e : EndState) (state : BrowserState) (requests : List SectionRequest) (offer text : List ℕ)
+    (planned : BrowserState)
     (after : EndState) : Type 0 where
   pub handed : List ℕ
   pub sections : List Wanted
-  pub is_handed : IsHanded plan e.exchange.config.rows wishes offer planned handed sections
+  pub is_handed : IsHanded state e.exchange.config.rows requests offer planned handed sections
   pub sound : IsTrue (are_sound sections)
   pub answered : Answered e handed sections text after
 
--- The RTX pairs of a wish don't fit its SSRCs.
-pub record IsUnsoundWish (e : EndState) (plan : Plan) (wishes : List Wish) (offer : List ℕ) (result : ℕ)
+-- The RTX pairs of a request don't fit its SSRCs.
+pub record IsUnsoundRequest (e : EndState) (state : BrowserState) (requests : List SectionRequest) (offer : List ℕ)
+    (result : ℕ)
     : Type 0 where
   pub handed : List ℕ
   pub sections : List Wanted
-  pub planned : Plan
-  pub is_handed : IsHanded plan e.exchange.config.rows wishes offer planned handed sections
+  pub planned : BrowserState
+  pub is_handed : IsHanded state e.exchange.config.rows requests offer planned handed sections
   pub unsound : are_sound sections ≡ false
   pub number : result ≡ out_of_range
 
 -- The end refuses what it is handed.
-pub record EndRefusesOffer (e : EndState) (plan : Plan) (wishes : List Wish) (offer : List ℕ) (result : ℕ)
+pub record EndRefusesOffer (e : EndState) (state : BrowserState) (requests : List SectionRequest) (offer : List ℕ)
+    (result : ℕ)
     : Type 0 where
   pub handed : List ℕ
   pub sections : List Wanted
-  pub planned : Plan
-  pub is_handed : IsHanded plan e.exchange.config.rows wishes offer planned handed sections
+  pub planned : BrowserState
+  pub is_handed : IsHanded state e.exchange.config.rows requests offer planned handed sections
   pub error : ExchangeError
   pub refuses : RefusesAnswer e.exchange handed sections error
   pub number : result ≡ exchange_code error
 
 -- Why a browser's offer isn't answered.
-abbrev pub IsUnanswered : EndState → Plan → List Wish → List ℕ → ℕ → Type 0
-IsUnanswered e plan wishes offer result = IsOfferHeldBack plan e.exchange.config.rows wishes offer result
-    ⊎ (IsUnsoundWish e plan wishes offer result ⊎ EndRefusesOffer e plan wishes offer result)
+abbrev pub IsUnanswered : EndState → BrowserState → List SectionRequest → List ℕ → ℕ → Type 0
+IsUnanswered e state requests offer result = IsOfferHeldBack state e.exchange.config.rows requests offer result
+    ⊎ (IsUnsoundRequest e state requests offer result ⊎ EndRefusesOffer e state requests offer result)
 
 -- The result of answering a browser's offer.
-abbrev pub AnswersOffered : EndState → Plan → List Wish → List ℕ → ℕ → List ℕ → Plan → EndState → Type 0
-AnswersOffered e plan wishes offer result text planned after =
-    ((result ≡ ok) × AnswersBrowser e plan wishes offer text planned after)
-    ⊎ (IsUnanswered e plan wishes offer result × (after ≡ e))
+abbrev pub AnswersOffered : EndState → BrowserState → List SectionRequest → List ℕ → ℕ → List ℕ → BrowserState
+    → EndState → Type 0
+AnswersOffered e state requests offer result text planned after =
+    ((result ≡ ok) × AnswersBrowser e state requests offer text planned after)
+    ⊎ (IsUnanswered e state requests offer result × (after ≡ e))
 
 -- The end takes what it is handed of a browser's answer.
-pub record AcceptsBrowser (e : EndState) (plan : Plan) (answer : List ℕ) (planned : Plan) (after : EndState)
+pub record AcceptsBrowser (e : EndState) (state : BrowserState) (answer : List ℕ) (planned : BrowserState)
+    (after : EndState)
     : Type 0 where
   pub handed : List ℕ
-  pub passes : AnswerPasses (tidied answer) plan planned handed
+  pub passes : AnswerPasses (tidied answer) state planned handed
   pub accepted : Accepted e handed after
 
 -- The end refuses it.
-pub record EndRefusesAnswer (e : EndState) (plan : Plan) (answer : List ℕ) (result : ℕ) : Type 0 where
+pub record EndRefusesAnswer (e : EndState) (state : BrowserState) (answer : List ℕ) (result : ℕ) : Type 0 where
   pub handed : List ℕ
-  pub planned : Plan
-  pub passes : AnswerPasses (tidied answer) plan planned handed
+  pub planned : BrowserState
+  pub passes : AnswerPasses (tidied answer) state planned handed
   pub error : ExchangeError
   pub refuses : RefusesAccept e.exchange handed error
   pub number : result ≡ exchange_code error
 
 -- Why a browser's answer isn't taken.
-abbrev pub IsUntaken : EndState → Plan → List ℕ → ℕ → Type 0
-IsUntaken e plan answer result =
-    IsHeldBack (tidied answer) (answer_refusal (tidied answer) plan) result ⊎ EndRefusesAnswer e plan answer result
+abbrev pub IsUntaken : EndState → BrowserState → List ℕ → ℕ → Type 0
+IsUntaken e state answer result =
+    IsHeldBack (tidied answer) (answer_refusal (tidied answer) state) result ⊎ EndRefusesAnswer e state answer result
 
 -- The result of accepting a browser's answer.
-abbrev pub AnswersTaken : EndState → Plan → List ℕ → ℕ → Plan → EndState → Type 0
-AnswersTaken e plan answer result planned after =
-    ((result ≡ ok) × AcceptsBrowser e plan answer planned after) ⊎ (IsUntaken e plan answer result × (after ≡ e))
+abbrev pub AnswersTaken : EndState → BrowserState → List ℕ → ℕ → BrowserState → EndState → Type 0
+AnswersTaken e state answer result planned after =
+    ((result ≡ ok) × AcceptsBrowser e state answer planned after) ⊎ (IsUntaken e state answer result × (after ≡ e))

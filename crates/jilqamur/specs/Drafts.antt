@@ -8,26 +8,26 @@ use Rattle.rtp_wire.specs.Elements.{Numbering}
 use Rattle.rtp_wire.specs.Kinds.{extension_of}
 use Rattle.rtp_wire.specs.Maps.{empty_map}
 use Rattle.rtp_wire.specs.Name.{name_of}
-use Rattle.rtp_media_browsers.specs.declared.wish.Wish.{Wish}
+use Rattle.rtp_media_browsers.specs.declared.request.SectionRequest.{SectionRequest}
 use Rattle.rtp_media_sections.specs.Answered.{flow}
 use Rattle.sdp_formats_rows.specs.Rows.{Row}
 use Rattle.rtp_media_sections.specs.Sections.{Wanted}
 use Rattle.jilqamur.specs.Codes.{ok, not_text, out_of_range}
 
--- The draft: rows and extension map of the next end; sections of the next offer or answer; wishes for the sections of a
--- browser's offer; and the (SSRC, RTX SSRC) pairs of the next section or wish.
+-- The draft: rows and extension map of the next end; sections of the next offer or answer; requests for the sections of
+-- a browser's offer; and the (SSRC, RTX SSRC) pairs of the next section or request.
 pub record DraftState : Type 0 where
   pub rows : List Row
   pub exts : Numbering
   pub sections : List Wanted
-  pub wishes : List Wish
+  pub requests : List SectionRequest
   pub repairs : List (ℕ × ℕ)
 
 -- The empty draft.
 abbrev pub empty_draft : DraftState
-empty_draft = record { rows = []; exts = empty_map; sections = []; wishes = []; repairs = [] }
+empty_draft = record { rows = []; exts = empty_map; sections = []; requests = []; repairs = [] }
 
--- The draft plus a row; plus these rows; plus a pair; plus a section or a wish, which takes the pairs.
+-- The draft plus a row; plus these rows; plus a pair; plus a section or a request, which takes the pairs.
 abbrev pub with_row : DraftState → Row → DraftState
 with_row d row = record d { rows = d.rows ++ row ∷ [] }
 
@@ -40,19 +40,19 @@ with_repair d ssrc repair = record d { repairs = d.repairs ++ (ssrc, repair) ∷
 abbrev pub with_section : DraftState → Wanted → DraftState
 with_section d section = record d { sections = d.sections ++ section ∷ []; repairs = [] }
 
-abbrev pub with_wish : DraftState → Wish → DraftState
-with_wish d wish = record d { wishes = d.wishes ++ wish ∷ []; repairs = [] }
+abbrev pub with_request : DraftState → SectionRequest → DraftState
+with_request d request = record d { requests = d.requests ++ request ∷ []; repairs = [] }
 
 -- One that gives a header extension this number.
 abbrev pub with_extension : DraftState → ℕ → List ℕ → DraftState
 with_extension d id uri = record d { exts = slice_set d.exts (id - 1) (Some (extension_of uri)) }
 
--- The draft without its sections; without its wishes; without its rows and map.
+-- The draft without its sections; without its requests; without its rows and map.
 abbrev pub without_sections : DraftState → DraftState
 without_sections d = record d { sections = [] }
 
-abbrev pub without_wishes : DraftState → DraftState
-without_wishes d = record d { wishes = [] }
+abbrev pub without_requests : DraftState → DraftState
+without_requests d = record d { requests = [] }
 
 abbrev pub without_media : DraftState → DraftState
 without_media d = record d { rows = []; exts = empty_map }

@@ -3,7 +3,7 @@ use Rattle.std.specs.Prelude.{ℕ, ◌==◌, List, if◌then◌else◌}
 use Rattle.std.specs.Str.{is_utf8}
 use Rattle.media_types.specs.Codecs.{codec_named}
 use Rattle.h26x_payload.specs.Codings.{has_format}
-use Rattle.payload_core_buffer.specs.Buffered.{may_hold}
+use Rattle.payload_core_buffer.specs.Buffered.{is_valid_capacity}
 use Rattle.rtp_media_streams.specs.declared.row_format.RowFormat.{RowFormat}
 use Rattle.jilqamur.specs.Codes.{ok, not_text, out_of_range}
 use Rattle.jilqamur.specs.Values.{if_given}
@@ -27,4 +27,4 @@ format_outcome w codec =
 
 -- The result of opening one with this capacity; the capacity is checked first.
 abbrev pub inbox_outcome : WireFormat → List ℕ → ℕ → ℕ
-inbox_outcome w codec held = if may_hold held then format_outcome w codec else out_of_range
+inbox_outcome w codec held = if is_valid_capacity held then format_outcome w codec else out_of_range

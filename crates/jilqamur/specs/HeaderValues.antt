@@ -1,5 +1,6 @@
 -- The values of header extensions of a datagram, by the ids that a C program gives.
-use Rattle.std.specs.Prelude.{ℕ, ◌≡◌, ◌-◌, ◌&&◌, Bool, nat_le, if◌then◌else◌, List, [], length, Option, Some, None, is_some}
+use Rattle.std.specs.Prelude.{ℕ, ◌≡◌, ◌-◌, ◌&&◌, Bool, nat_le, if◌then◌else◌, List, [], length, Option, Some, None}
+use Rattle.std.specs.Prelude.{is_some}
 use Rattle.std.specs.Prelude.{unwrap_or, slice_set}
 use Rattle.rtp_wire.specs.Elements.{Numbering}
 use Rattle.rtp_wire.specs.Header.{header_in}

@@ -1,23 +1,23 @@
 use Rattle.std.specs.Prelude.{ℕ, List, [], false, Option, None}
 use Rattle.rtp_media_browsers.specs.Remotes.{silent}
-use Rattle.rtp_media_browsers.specs.declared.plan.Plan.{Plan}
+use Rattle.rtp_media_browsers.specs.declared.state.BrowserState.{BrowserState}
 use Rattle.payload_core_buffer.specs.Steps.{MediaUnit}
 use Rattle.rtp_media_ends.specs.Ends.{EndState}
-use Rattle.jilqamur.specs.Drafts.{DraftState, empty_draft, without_sections, without_wishes}
+use Rattle.jilqamur.specs.Drafts.{DraftState, empty_draft, without_sections, without_requests}
 
--- What an end's handle holds: the end, once made; the plan remembered from a browser's texts; the draft of the next
+-- What an end's handle holds: the end, once made; the state remembered from a browser's texts; the draft of the next
 -- end, offer or answer; and what calls left to be fetched.
 pub record HeldEndState : Type 0 where
   pub end : Option EndState
-  pub plan : Plan
+  pub state : BrowserState
   pub draft : DraftState
   pub text : List ℕ
   pub datagrams : List (List ℕ)
   pub unit : Option MediaUnit
 
 -- Nothing is remembered of a browser.
-abbrev pub new_plan : Plan
-new_plan = record {
+abbrev pub new_state : BrowserState
+new_state = record {
   places = [];
   sections = [];
   allows_mixed = false;
@@ -32,7 +32,7 @@ new_plan = record {
 abbrev pub empty_held_end : HeldEndState
 empty_held_end = record {
   end = None;
-  plan = new_plan;
+  state = new_state;
   draft = empty_draft;
   text = [];
   datagrams = [];
@@ -43,23 +43,23 @@ empty_held_end = record {
 abbrev pub with_draft : HeldEndState → DraftState → HeldEndState
 with_draft p draft = record p { draft = draft }
 
--- What calls leave: only the end changes; or the sections are used up and a text is left; or the wishes are used up and
--- the plan is remembered; or datagrams or a unit are left.
+-- What calls leave: only the end changes; or the sections are used up and a text is left; or the requests are used up
+-- and the state is remembered; or datagrams or a unit are left.
 abbrev pub behind_end : HeldEndState → Option EndState → HeldEndState
 behind_end p end = record p { end = end }
 
 abbrev pub behind_text : HeldEndState → Option EndState → List ℕ → HeldEndState
 behind_text p end text = record p { end = end; draft = without_sections p.draft; text = text }
 
-abbrev pub behind_offer : HeldEndState → Option EndState → Plan → List ℕ → HeldEndState
-behind_offer p end plan text =
-    record p { end = end; plan = plan; draft = without_wishes p.draft; text = text }
+abbrev pub behind_offer : HeldEndState → Option EndState → BrowserState → List ℕ → HeldEndState
+behind_offer p end state text =
+    record p { end = end; state = state; draft = without_requests p.draft; text = text }
 
-abbrev pub behind_answer : HeldEndState → Option EndState → Plan → HeldEndState
-behind_answer p end plan = record p { end = end; plan = plan }
+abbrev pub behind_answer : HeldEndState → Option EndState → BrowserState → HeldEndState
+behind_answer p end state = record p { end = end; state = state }
 
-abbrev pub behind_dressing : HeldEndState → Plan → List ℕ → HeldEndState
-behind_dressing p plan text = record p { plan = plan; text = text }
+abbrev pub after_transport : HeldEndState → BrowserState → List ℕ → HeldEndState
+after_transport p state text = record p { state = state; text = text }
 
 abbrev pub behind_sample : HeldEndState → Option EndState → List (List ℕ) → HeldEndState
 behind_sample p end datagrams = record p { end = end; datagrams = datagrams }

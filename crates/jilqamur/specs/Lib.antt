@@ -5,7 +5,7 @@ pub mod Codes
 pub mod Copies
 pub mod DraftedRows
 pub mod Drafts
-pub mod Dressing
+pub mod WithTransport
 pub mod Exchanges
 pub mod Faults
 pub mod FaultyLines
@@ -38,4 +38,4 @@ pub mod Told
 pub mod Units
 pub mod Values
 pub mod Windows
-pub mod Wishes
+pub mod Requests

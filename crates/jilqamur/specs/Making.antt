@@ -7,7 +7,7 @@ use Rattle.rtp_media_exchange.specs.Refusals.{refusal_of_new}
 use Rattle.rtp_media_ends.specs.Ends.{new_end}
 use Rattle.jilqamur.specs.Codes.{ok, memory, row_not_plain, types_not_distinct, not_writable}
 use Rattle.jilqamur.specs.Drafts.{without_media}
-use Rattle.jilqamur.specs.HeldEnds.{HeldEndState, new_plan, with_draft}
+use Rattle.jilqamur.specs.HeldEnds.{HeldEndState, new_state, with_draft}
 
 -- The number of a refusal to make an end.
 abbrev pub end_code : EndError → ℕ
@@ -32,5 +32,5 @@ without_draft p = with_draft p (without_media p.draft)
 abbrev pub made : HeldEndState → ℕ → HeldEndState
 made p session = record (without_draft p) {
   end = Some (new_end (bare_session session) p.draft.exts (record { rows = p.draft.rows; distances = [] }));
-  plan = new_plan;
+  state = new_state;
 }

@@ -56,7 +56,8 @@ KeepsWithin e n bytes result after = Changes (is_receiver_at e n) (limited_end e
 
 -- The number of the next datagram of a sending stream's samples.
 abbrev pub TellsNext : EndState → ℕ → ℕ → ℕ → Type 0
-TellsNext e n result next = Where (is_sender_at e n) ((result ≡ ok) × (next ≡ (sender_at e n).next)) (result ≡ no_stream)
+TellsNext e n result next = Where (is_sender_at e n) ((result ≡ ok) × (next ≡ (sender_at e n).next))
+    (result ≡ no_stream)
 
 -- Numbers of a sending stream are left out.
 abbrev pub SkipsTo : EndState → ℕ → ℕ → ℕ → EndState → Type 0

@@ -1,7 +1,7 @@
 -- What calls of receiving streams answer.
 use Rattle.std.specs.Prelude.{ℕ, ◌≡◌, ◌≢◌, List, length, Option}
 use Rattle.rtp_wire.specs.Name.{name_of}
-use Rattle.payload_core_buffer.specs.Buffered.{Holding, may_hold}
+use Rattle.payload_core_buffer.specs.Buffered.{Holding, is_valid_capacity}
 use Rattle.payload_core_buffer.specs.Steps.{MediaUnit}
 use Rattle.payload_core_buffer.specs.Steps.{PollStep}
 use Rattle.rtp_media_streams.specs.Polls.{drain_step, given, poll_step}
@@ -29,13 +29,13 @@ pub record OpensReceiver (refusal : Option OpenError) (e : EndState) (mid : List
 
 -- What opening a receiving stream answers.
 abbrev pub AnswersReceiver : EndState → List ℕ → ℕ → ℕ → Holding → ℕ → ℕ → EndState → Type 0
-AnswersReceiver e mid ssrc pt holding result stream after = Where (may_hold holding.held)
+AnswersReceiver e mid ssrc pt holding result stream after = Where (is_valid_capacity holding.held)
     (OpensReceiver (refusal_of_open_receiver e (name_of 16 mid) ssrc pt) e mid ssrc pt holding result stream after)
     ((result ≡ out_of_range) × (after ≡ e))
 
 -- What opening one in a section whose sender may name no SSRC answers.
 abbrev pub AnswersUnsignalled : EndState → List ℕ → ℕ → ℕ → Holding → ℕ → ℕ → EndState → Type 0
-AnswersUnsignalled e mid ssrc pt holding result stream after = Where (may_hold holding.held)
+AnswersUnsignalled e mid ssrc pt holding result stream after = Where (is_valid_capacity holding.held)
     (OpensReceiver (refusal_of_open_unsignalled e (name_of 16 mid) ssrc pt) e mid ssrc pt holding result stream after)
     ((result ≡ out_of_range) × (after ≡ e))
 

@@ -2,8 +2,8 @@
 use Rattle.std.specs.Prelude.{ℕ, ◌≡◌, ◌≢◌, ◌==◌, List, length, Option, Some, None, is_some, slice_get}
 use Rattle.std.specs.Prelude.{if◌then◌else◌}
 use Rattle.std.specs.Option.{option_map}
-use Rattle.rtp_media_browsers.specs.declared.plan.Plan.{Plan}
-use Rattle.rtp_media_browsers.specs.declared.plan.Remote.{Remote}
+use Rattle.rtp_media_browsers.specs.declared.state.BrowserState.{BrowserState}
+use Rattle.rtp_media_browsers.specs.declared.state.Remote.{Remote}
 use Rattle.sdp_formats_values.specs.declared.candidate.IceCreds.{IceCreds}
 use Rattle.sdp_formats_values.specs.declared.setup.Setup.{Setup}
 use Rattle.sdp_formats_values.specs.declared.setup.Setup.TheVariants.{ActPass, Active, Passive}
@@ -20,15 +20,15 @@ setup_told (Some ActPass) = 0
 setup_told (Some Active) = 1
 setup_told (Some Passive) = 2
 
-abbrev pub remote_told : Plan → WireRemote
-remote_told plan = record {
-  has_setup = is_some plan.remote.setup;
-  setup = setup_told plan.remote.setup;
-  has_own_setup = is_some plan.setup;
-  own_setup = setup_told plan.setup;
-  is_trickling = plan.remote.is_trickling;
-  is_lite = plan.remote.is_lite;
-  candidates = length plan.remote.candidates;
+abbrev pub remote_told : BrowserState → WireRemote
+remote_told state = record {
+  has_setup = is_some state.remote.setup;
+  setup = setup_told state.remote.setup;
+  has_own_setup = is_some state.setup;
+  own_setup = setup_told state.setup;
+  is_trickling = state.remote.is_trickling;
+  is_lite = state.remote.is_lite;
+  candidates = length state.remote.candidates;
 }
 
 abbrev pub ufrag_of : Option IceCreds → Option (List ℕ)

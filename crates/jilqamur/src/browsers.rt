@@ -19,7 +19,8 @@ use crate::exchanging::exchange_code;
 use crate::handle::EndHandle;
 use crate::object::Object;
 use rtp_media_browsers::{
-    BrowserError, Plan, Wish, answer_for_end, for_end, sections_for, wishes_in_common,
+    BrowserError, BrowserState, SectionRequest, answer_for_end, for_end, requests_in_common,
+    sections_for,
 };
 use rtp_media_ends::End;
 use rtp_media_sections::{SectionSpec, are_sound};
@@ -57,19 +58,19 @@ pub(crate) fn browser_code(error: &BrowserError) -> u32
 /// Why the offer isn't passed on.
 fn handed(
     alloc: Global,
-    plan: &mut Plan,
+    state: &mut BrowserState,
     config: &CodecConfig,
     offer: &str,
-    wishes: Vec<Wish>,
+    requests: Vec<SectionRequest>,
 ) -> Result<(String, Vec<SectionSpec>), BrowserError>
     ensures handed { IfOk result
-        (λ r. IsHanded plan.old config.now.rows wishes.items offer.now plan.new (string_bytes r.0) r.1.items) }
+        (λ r. IsHanded state.old config.now.rows requests.items offer.now state.new (string_bytes r.0) r.1.items) }
     ensures refused { IfErr result
-        (λ e. RefusesInCommon (tidied offer.now) plan.old config.now.rows wishes.items e) }
+        (λ e. RefusesInCommon (tidied offer.now) state.old config.now.rows requests.items e) }
 {
-    let wishes = wishes_in_common(alloc, plan, config, offer, wishes)?;
-    let text = for_end(alloc, plan, offer, wishes.as_slice())?;
-    let sections = sections_for(alloc, plan, wishes.as_slice())?;
+    let requests = requests_in_common(alloc, state, config, offer, requests)?;
+    let text = for_end(alloc, state, offer, requests.as_slice())?;
+    let sections = sections_for(alloc, state, requests.as_slice())?;
     Ok((text, sections))
 }
 
@@ -81,16 +82,16 @@ fn handed(
 fn answered(
     alloc: Global,
     end: &mut End,
-    plan: &mut Plan,
+    state: &mut BrowserState,
     offer: &str,
-    wishes: Vec<Wish>,
+    requests: Vec<SectionRequest>,
 ) -> Result<String, u32>
     ensures answered { IfOk result
-        (λ text. AnswersBrowser end.old plan.old wishes.items offer.now (string_bytes text) plan.new end.new) }
-    ensures refused { IfErr result (λ code. IsUnanswered end.old plan.old wishes.items offer.now code) }
+        (λ text. AnswersBrowser end.old state.old requests.items offer.now (string_bytes text) state.new end.new) }
+    ensures refused { IfErr result (λ code. IsUnanswered end.old state.old requests.items offer.now code) }
     ensures unchanged { OnErr result (end.new ≡ end.old) }
 {
-    let (text, sections) = match handed(alloc, plan, end.config(), offer, wishes) {
+    let (text, sections) = match handed(alloc, state, end.config(), offer, requests) {
         Ok(handed) => handed,
         Err(error) => return Err(browser_code(&error)),
     };
@@ -103,12 +104,13 @@ fn answered(
     }
 }
 
-/// Answers a browser's offer by the wishes, which are used up, and returns `OK`: the text of the end's answer is left
-/// to be fetched, and the plan is updated. A section without a row in common is rejected alone (RFC 3264 6). `NOT_TEXT`
-/// for bytes that aren't UTF-8, `NOT_MADE` without an end; otherwise the first that applies of `TEXT_UNREADABLE`,
+/// Answers a browser's offer by the requests, which are used up, and returns `OK`: the text of the end's answer is left
+/// to be fetched, and the state is updated. A section without a row in common is rejected alone (RFC 3264 6).
+/// `NOT_TEXT` for bytes that aren't UTF-8, `NOT_MADE` without an end; otherwise the first that applies of
+/// `TEXT_UNREADABLE`,
 /// `REST_UNREAD`, `MID_NOT_KEPT`, `MID_TWICE`, `SEVERAL_BUNDLES`, `OUTSIDE_BUNDLE`, `NOTHING_LEFT` and `KEYS_ALONE`;
-/// otherwise `OUT_OF_RANGE` if a wish's RTX pairs don't fit its SSRCs; otherwise what the end refuses, as in `answer`;
-/// or `MEMORY`. Then end, text and plan don't change.
+/// otherwise `OUT_OF_RANGE` if a request's RTX pairs don't fit its SSRCs; otherwise what the end refuses, as in
+/// `answer`; or `MEMORY`. Then end, text and state don't change.
 #[tactic(auto, using(crate::proofs::Bare::want_of_offer))]
 #[unsafe(no_mangle)]
 pub extern "C" fn jilqamur_end_answer_browser(
@@ -118,11 +120,11 @@ pub extern "C" fn jilqamur_end_answer_browser(
 ) -> u32
     ensures answer { AtObject (end_in end.old) (end_in end.new) result
         (λ p after. WithText offer.now p.end after.end result
-        (λ e now. AnswersOffered e p.plan p.draft.wishes offer.now result after.text after.plan now)) }
+        (λ e now. AnswersOffered e p.state p.draft.requests offer.now result after.text after.state now)) }
     ensures kept { AtObject (end_in end.old) (end_in end.new) result
-        (λ p after. result ≢ ok → (after.text ≡ p.text) × (after.plan ≡ p.plan)) }
+        (λ p after. result ≢ ok → (after.text ≡ p.text) × (after.state ≡ p.state)) }
     ensures rest { AtObject (end_in end.old) (end_in end.new) result
-        (λ p after. after ≡ behind_offer p after.end after.plan after.text) }
+        (λ p after. after ≡ behind_offer p after.end after.state after.text) }
 {
     if !end.slot.is_open() {
         return codes::CLOSED;
@@ -130,19 +132,19 @@ pub extern "C" fn jilqamur_end_answer_browser(
     let Object::End(held) = end.slot.place.held() else {
         unreachable!();
     };
-    let wishes = held.draft.take_wishes(alloc);
+    let requests = held.draft.take_requests(alloc);
     let Some(offer) = text_in(offer) else {
         return codes::NOT_TEXT;
     };
     let Some(end) = &mut held.end else {
         return codes::NOT_MADE;
     };
-    let Ok(mut plan) = held.plan.clone(alloc) else {
+    let Ok(mut state) = held.state.clone(alloc) else {
         return codes::MEMORY;
     };
-    match answered(alloc, end, &mut plan, offer, wishes) {
+    match answered(alloc, end, &mut state, offer, requests) {
         Ok(text) => {
-            held.plan = plan;
+            held.state = state;
             held.text = text.into_bytes();
             codes::OK
         }
@@ -155,12 +157,12 @@ pub extern "C" fn jilqamur_end_answer_browser(
 /// # Errors
 ///
 /// The number of the refusal.
-fn accepted(alloc: Global, end: &mut End, plan: &mut Plan, answer: &str) -> Result<(), u32>
-    ensures accepted { IfOk result (λ _. AcceptsBrowser end.old plan.old answer.now plan.new end.new) }
-    ensures refused { IfErr result (λ code. IsUntaken end.old plan.old answer.now code) }
+fn accepted(alloc: Global, end: &mut End, state: &mut BrowserState, answer: &str) -> Result<(), u32>
+    ensures accepted { IfOk result (λ _. AcceptsBrowser end.old state.old answer.now state.new end.new) }
+    ensures refused { IfErr result (λ code. IsUntaken end.old state.old answer.now code) }
     ensures unchanged { OnErr result (end.new ≡ end.old) }
 {
-    let text = match answer_for_end(alloc, plan, answer) {
+    let text = match answer_for_end(alloc, state, answer) {
         Ok(text) => text,
         Err(error) => return Err(browser_code(&error)),
     };
@@ -183,11 +185,11 @@ pub extern "C" fn jilqamur_end_accept_browser(
 ) -> u32
     ensures answer { AtObject (end_in end.old) (end_in end.new) result
         (λ p after. WithText answer.now p.end after.end result
-        (λ e now. AnswersTaken e p.plan answer.now result after.plan now)) }
+        (λ e now. AnswersTaken e p.state answer.now result after.state now)) }
     ensures kept { AtObject (end_in end.old) (end_in end.new) result
-        (λ p after. result ≢ ok → after.plan ≡ p.plan) }
+        (λ p after. result ≢ ok → after.state ≡ p.state) }
     ensures rest { AtObject (end_in end.old) (end_in end.new) result
-        (λ p after. after ≡ behind_answer p after.end after.plan) }
+        (λ p after. after ≡ behind_answer p after.end after.state) }
 {
     if !end.slot.is_open() {
         return codes::CLOSED;
@@ -201,12 +203,12 @@ pub extern "C" fn jilqamur_end_accept_browser(
     let Some(end) = &mut held.end else {
         return codes::NOT_MADE;
     };
-    let Ok(mut plan) = held.plan.clone(alloc) else {
+    let Ok(mut state) = held.state.clone(alloc) else {
         return codes::MEMORY;
     };
-    match accepted(alloc, end, &mut plan, answer) {
+    match accepted(alloc, end, &mut state, answer) {
         Ok(()) => {
-            held.plan = plan;
+            held.state = state;
             codes::OK
         }
         Err(code) => code,

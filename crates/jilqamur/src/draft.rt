@@ -8,14 +8,14 @@ ghost use Rattle.jilqamur.specs.DraftedRows.{row_of, row_outcome};
 ghost use Rattle.jilqamur.specs.Drafts.{empty_draft, with_repair, with_row, with_rows, with_section};
 ghost use Rattle.jilqamur.specs.Drafts.{with_extension};
 ghost use Rattle.jilqamur.specs.Drafts.{kind_of, section_of, section_outcome, extension_outcome};
-ghost use Rattle.jilqamur.specs.Wishes.{HasWish, IsWish};
+ghost use Rattle.jilqamur.specs.Requests.{HasRequest, IsRequest};
 ghost use Rattle.rtp_media_sections.specs.Answered.{flow};
 
 use crate::codes;
 use crate::copying::text_in;
 use crate::row::{WireRow, row_of};
 use media_types::MediaKind;
-use rtp_media_browsers::Wish;
+use rtp_media_browsers::SectionRequest;
 use rtp_media_sections::{SectionSpec, flow};
 use rtp_wire::{Direction, Extension, ExtensionMap, Frequency, Mid, Ssrc};
 use sdp_formats_rounds::CodecConfig;
@@ -24,14 +24,14 @@ use std::alloc::{AllocError, Global};
 use std::marker::Model;
 use std::mem;
 
-/// The draft: rows and extension map of the next end; sections of the next offer or answer; wishes
+/// The draft: rows and extension map of the next end; sections of the next offer or answer; requests
 /// for the sections of a browser's offer; and the (SSRC, RTX SSRC) pairs of the next section or
-/// wish.
+/// request.
 pub struct Draft {
     rows: Vec<PayloadParams>,
     exts: ExtensionMap,
     sections: Vec<SectionSpec>,
-    wishes: Vec<Wish>,
+    requests: Vec<SectionRequest>,
     repairs: Vec<(Ssrc, Ssrc)>,
 }
 
@@ -42,7 +42,7 @@ impl Drop for Draft {
             rows: _rows,
             exts: _exts,
             sections: _sections,
-            wishes: _wishes,
+            requests: _requests,
             repairs: _repairs,
         } = self;
     }
@@ -61,7 +61,7 @@ impl Model for Draft {
       rows = d.rows.items;
       exts = d.exts;
       sections = d.sections.items;
-      wishes = d.wishes.items;
+      requests = d.requests.items;
       repairs = d.repairs.items;
     } };
 }
@@ -82,19 +82,19 @@ fn ssrcs_of(alloc: Global, ssrcs: &[u32]) -> Result<Vec<Ssrc>, AllocError>
     ssrcs.iter().map(|ssrc| Ssrc::from(*ssrc)).collect(alloc)
 }
 
-/// The wish for a section, or that it be rejected.
-fn wish_of(
+/// The request for a section, or that it be rejected.
+fn request_of(
     is_accepted: bool,
     direction: Direction,
     ssrcs: Vec<Ssrc>,
     repairs: Vec<(Ssrc, Ssrc)>,
-) -> Wish
-    ensures { IsWish is_accepted direction ssrcs.items repairs.items result }
+) -> SectionRequest
+    ensures { IsRequest is_accepted direction ssrcs.items repairs.items result }
 {
     if !is_accepted {
-        return Wish::Reject;
+        return SectionRequest::Reject;
     }
-    Wish::Accept {
+    SectionRequest::Accept {
         direction,
         ssrcs,
         repairs,
@@ -110,7 +110,7 @@ impl Draft {
             rows: Vec::new(alloc),
             exts: ExtensionMap::empty(),
             sections: Vec::new(alloc),
-            wishes: Vec::new(alloc),
+            requests: Vec::new(alloc),
             repairs: Vec::new(alloc),
         }
     }
@@ -177,7 +177,7 @@ impl Draft {
         }
     }
 
-    /// Makes one SSRC the RTX SSRC of another in the next section or wish (RFC 4588 8.3), and
+    /// Makes one SSRC the RTX SSRC of another in the next section or request (RFC 4588 8.3), and
     /// returns `OK`; or `MEMORY`, and nothing has changed.
     pub fn add_repair(&mut self, ssrc: u32, repair: u32) -> u32
         ensures outcome { result ≢ memory → result ≡ ok }
@@ -235,9 +235,9 @@ impl Draft {
         }
     }
 
-    /// Puts a wish after those for the sections of the next browser's offer, with the repairs that are there, which
+    /// Puts a request after those for the sections of the next browser's offer, with the repairs that are there, which
     /// are used up, and returns `OK`; or `MEMORY`, and nothing has changed.
-    pub fn add_wish(
+    pub fn add_request(
         &mut self,
         alloc: Global,
         is_accepted: bool,
@@ -246,14 +246,14 @@ impl Draft {
         ssrcs: &[u32],
     ) -> u32
         ensures outcome { result ≢ memory → result ≡ ok }
-        ensures added { result ≡ ok → HasWish self.old is_accepted (flow sends receives) ssrcs.now self.new }
+        ensures added { result ≡ ok → HasRequest self.old is_accepted (flow sends receives) ssrcs.now self.new }
         ensures unchanged { result ≢ ok → self.new ≡ self.old }
     {
         let (Ok(ssrcs), Ok(repairs)) = (ssrcs_of(alloc, ssrcs), self.repairs()) else {
             return codes::MEMORY;
         };
-        let wish = wish_of(is_accepted, flow(sends, receives), ssrcs, repairs);
-        match self.wishes.push(wish) {
+        let request = request_of(is_accepted, flow(sends, receives), ssrcs, repairs);
+        match self.requests.push(request) {
             Ok(()) => {
                 self.repairs = Vec::new(alloc);
                 codes::OK
@@ -262,15 +262,15 @@ impl Draft {
         }
     }
 
-    /// The wishes, which are used up; all else stays.
-    pub fn take_wishes(&mut self, alloc: Global) -> Vec<Wish>
-        ensures wishes { result.items ≡ self.old.wishes }
-        ensures rest { self.new ≡ record self.old { wishes = [] } }
+    /// The requests, which are used up; all else stays.
+    pub fn take_requests(&mut self, alloc: Global) -> Vec<SectionRequest>
+        ensures requests { result.items ≡ self.old.requests }
+        ensures rest { self.new ≡ record self.old { requests = [] } }
     {
-        mem::replace(&mut self.wishes, Vec::new(alloc))
+        mem::replace(&mut self.requests, Vec::new(alloc))
     }
 
-    /// The rows, as a config, and the map of header extensions, which are used up; sections and wishes stay.
+    /// The rows, as a config, and the map of header extensions, which are used up; sections and requests stay.
     pub fn take_media(&mut self, alloc: Global) -> (CodecConfig, ExtensionMap)
         ensures config { result.0 ≡ record { rows = self.old.rows; distances = [] } }
         ensures exts { result.1 ≡ self.old.exts }

@@ -87,7 +87,7 @@ pub extern "C" fn jilqamur_end_extension(
     held.draft.set_extension(alloc, id, uri)
 }
 
-/// Makes one SSRC the RTX SSRC of another in the next section or wish (RFC 4588 8.3), and returns
+/// Makes one SSRC the RTX SSRC of another in the next section or request (RFC 4588 8.3), and returns
 /// `OK`; or `MEMORY`, and nothing has changed.
 #[unsafe(no_mangle)]
 pub extern "C" fn jilqamur_end_section_repair(end: &mut EndHandle, ssrc: u32, repair: u32) -> u32

@@ -12,7 +12,7 @@ use crate::codes;
 use crate::handle::EndHandle;
 use crate::held_end::HeldEnd;
 use crate::object::Object;
-use rtp_media_browsers::Plan;
+use rtp_media_browsers::BrowserState;
 use rtp_media_ends::End;
 use rtp_media_exchange::EndError;
 use rtp_wire::SessionId;
@@ -87,7 +87,7 @@ pub extern "C" fn jilqamur_end_make(alloc: Global, end: &mut EndHandle, session:
     match End::new(alloc, config, session, exts) {
         Ok(made) => {
             held.end = Some(made);
-            held.plan = Plan::new(alloc);
+            held.state = BrowserState::new(alloc);
             codes::OK
         }
         Err(error) => end_code(error),

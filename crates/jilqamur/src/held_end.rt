@@ -5,7 +5,7 @@ ghost use Rattle.jilqamur.specs.HeldEnds.{empty_held_end};
 
 use crate::draft::Draft;
 use payload_core_buffer::Unit;
-use rtp_media_browsers::Plan;
+use rtp_media_browsers::BrowserState;
 use rtp_media_ends::End;
 use rtp_media_streams::Datagram;
 use std::alloc::Global;
@@ -16,8 +16,8 @@ use std::marker::Model;
 pub struct HeldEnd {
     /// The end, once it is made.
     pub end: Option<End>,
-    /// The plan remembered from a browser's texts.
-    pub plan: Plan,
+    /// The state remembered from a browser's texts.
+    pub state: BrowserState,
     /// What the next end is made of, and what the next offer or answer has.
     pub draft: Draft,
     /// The text that the last offer or answer left.
@@ -39,7 +39,7 @@ impl Model for HeldEnd {
 
     ghost view = { λ p. record {
       end = p.end;
-      plan = p.plan;
+      state = p.state;
       draft = p.draft;
       text = p.text.items;
       datagrams = p.datagrams.items;
@@ -54,7 +54,7 @@ impl HeldEnd {
     {
         HeldEnd {
             end: None,
-            plan: Plan::new(alloc),
+            state: BrowserState::new(alloc),
             draft: Draft::empty(alloc),
             text: Vec::new(alloc),
             datagrams: Vec::new(alloc),

@@ -11,7 +11,7 @@ ghost use Rattle.jilqamur.specs.Inboxes.{new_inbox, Takes, Polls, Drains};
 use crate::answers::poll_code;
 use crate::codes;
 use crate::format::{WireFormat, read_format};
-use payload_core_buffer::{Unit, may_hold};
+use payload_core_buffer::{Unit, is_valid_capacity};
 use rtp_media_streams::{PayloadTypes, Placed, ReceivingStream};
 use rtp_wire::{ExtensionMap, Pt, SeqNo, Ssrc};
 use std::alloc::{AllocError, Global};
@@ -59,7 +59,7 @@ impl Inbox {
         ensures refused { IfErr result (λ code. code ≡ inbox_outcome format.now codec.now held) }
         ensures refusal { IfErr result (λ code. code ≢ ok) }
     {
-        if !may_hold(held) {
+        if !is_valid_capacity(held) {
             return Err(codes::OUT_OF_RANGE);
         }
         let row = match read_format(format, codec) {

@@ -16,7 +16,7 @@ use crate::format::{WireFormat, read_format};
 use crate::payload_unit::{PayloadUnit, WireUnit};
 use h26x_payload::{CodecDepacketizer, NotBoxed};
 use payload_core_base::{Depacketizer, PacketError};
-use payload_core_buffer::{Depacketized, DepacketizingBuffer, RtpMeta, may_hold};
+use payload_core_buffer::{Depacketized, DepacketizingBuffer, RtpMeta, is_valid_capacity};
 use rtp_media_streams::{RowFormat, depacketizer_for};
 use rtp_wire::{ExtensionValues, SeqNo};
 use std::alloc::Global;
@@ -88,7 +88,7 @@ impl PacketInbox {
         ensures refused { IfErr result (λ code. code ≡ inbox_outcome format.now codec.now held) }
         ensures refusal { IfErr result (λ code. code ≢ ok) }
     {
-        if !may_hold(held) {
+        if !is_valid_capacity(held) {
             return Err(codes::OUT_OF_RANGE);
         }
         let format = match read_format(format, codec) {

@@ -17,7 +17,7 @@ use crate::copying::text_in;
 use crate::handle::EndHandle;
 use crate::object::Object;
 use crate::refusals::open_code;
-use payload_core_buffer::may_hold;
+use payload_core_buffer::is_valid_capacity;
 use rtp_media_ends::End;
 use rtp_media_stream_table::Received;
 use rtp_wire::{Mid, Pt, Ssrc};
@@ -55,7 +55,7 @@ fn open_with(
     ensures answer { AnswersReceiver end.old mid.now ssrc pt (holding_of hold_back held) result stream.new end.new }
     ensures kept { result ≢ ok → stream.new ≡ stream.old }
 {
-    if !may_hold(held) {
+    if !is_valid_capacity(held) {
         return codes::OUT_OF_RANGE;
     }
     match end.open_receiver(
@@ -123,7 +123,7 @@ fn open_unsignalled_with(
     ensures answer { AnswersUnsignalled end.old mid.now ssrc pt (holding_of hold_back held) result stream.new end.new }
     ensures kept { result ≢ ok → stream.new ≡ stream.old }
 {
-    if !may_hold(held) {
+    if !is_valid_capacity(held) {
         return codes::OUT_OF_RANGE;
     }
     match end.open_unsignalled(

@@ -13,7 +13,7 @@ use crate::codes;
 use crate::copying::copy_out;
 use crate::handle::EndHandle;
 use crate::object::Object;
-use rtp_media_browsers::{Plan, Remote};
+use rtp_media_browsers::{BrowserState, Remote};
 use sdp_formats_values::Setup;
 use std::alloc::{AllocError, Global};
 
@@ -51,15 +51,15 @@ fn setup_told(setup: Option<Setup>) -> u8
 }
 
 /// What is told of a browser.
-fn remote_told(plan: &Plan) -> WireRemote
-    ensures { result ≡ remote_told plan.now }
+fn remote_told(state: &BrowserState) -> WireRemote
+    ensures { result ≡ remote_told state.now }
 {
-    let remote = &plan.remote;
+    let remote = &state.remote;
     WireRemote {
         has_setup: remote.setup.is_some(),
         setup: setup_told(remote.setup),
-        has_own_setup: plan.setup.is_some(),
-        own_setup: setup_told(plan.setup),
+        has_own_setup: state.setup.is_some(),
+        own_setup: setup_told(state.setup),
         is_trickling: remote.is_trickling,
         is_lite: remote.is_lite,
         candidates: remote.candidates.as_slice().len(),
@@ -102,7 +102,7 @@ fn candidate_of(alloc: Global, remote: &Remote, index: usize) -> Result<Option<S
 #[unsafe(no_mangle)]
 pub extern "C" fn jilqamur_end_remote(end: &mut EndHandle, told: &mut WireRemote) -> u32
     ensures told { AtObject (end_in end.old) (end_in end.new) result
-        (λ p after. (result ≡ ok) × (told.new ≡ remote_told p.plan)) }
+        (λ p after. (result ≡ ok) × (told.new ≡ remote_told p.state)) }
     ensures closed { result ≡ closed → told.new ≡ told.old }
     ensures unchanged { end_in end.new ≡ end_in end.old }
 {
@@ -112,7 +112,7 @@ pub extern "C" fn jilqamur_end_remote(end: &mut EndHandle, told: &mut WireRemote
     let Object::End(held) = end.slot.place.held() else {
         unreachable!();
     };
-    *told = remote_told(&held.plan);
+    *told = remote_told(&held.state);
     codes::OK
 }
 
@@ -128,7 +128,7 @@ pub extern "C" fn jilqamur_end_remote_text(
     needed: &mut usize,
 ) -> u32
     ensures text { AtObject (end_in end.old) (end_in end.new) result
-        (λ p after. IsPrinted (part_of p.plan.remote part) buffer.old result needed.old needed.new buffer.new) }
+        (λ p after. IsPrinted (part_of p.state.remote part) buffer.old result needed.old needed.new buffer.new) }
     ensures closed { result ≡ closed → (buffer.new ≡ buffer.old) × (needed.new ≡ needed.old) }
     ensures nothing { result ≡ nothing → needed.new ≡ needed.old }
     ensures unchanged { end_in end.new ≡ end_in end.old }
@@ -139,7 +139,7 @@ pub extern "C" fn jilqamur_end_remote_text(
     let Object::End(held) = end.slot.place.held() else {
         unreachable!();
     };
-    match part_of(alloc, &held.plan.remote, part) {
+    match part_of(alloc, &held.state.remote, part) {
         Ok(Some(text)) => copy_out(text.as_bytes(), buffer, needed),
         Ok(None) => codes::NOTHING,
         Err(_) => codes::MEMORY,
@@ -158,7 +158,7 @@ pub extern "C" fn jilqamur_end_remote_candidate(
     needed: &mut usize,
 ) -> u32
     ensures text { AtObject (end_in end.old) (end_in end.new) result
-        (λ p after. IsPrinted (candidate_of p.plan.remote index) buffer.old result needed.old needed.new buffer.new) }
+        (λ p after. IsPrinted (candidate_of p.state.remote index) buffer.old result needed.old needed.new buffer.new) }
     ensures closed { result ≡ closed → (buffer.new ≡ buffer.old) × (needed.new ≡ needed.old) }
     ensures nothing { result ≡ nothing → needed.new ≡ needed.old }
     ensures unchanged { end_in end.new ≡ end_in end.old }
@@ -169,7 +169,7 @@ pub extern "C" fn jilqamur_end_remote_candidate(
     let Object::End(held) = end.slot.place.held() else {
         unreachable!();
     };
-    match candidate_of(alloc, &held.plan.remote, index) {
+    match candidate_of(alloc, &held.state.remote, index) {
         Ok(Some(text)) => copy_out(text.as_bytes(), buffer, needed),
         Ok(None) => codes::NOTHING,
         Err(_) => codes::MEMORY,

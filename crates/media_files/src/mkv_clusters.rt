@@ -46,7 +46,8 @@ impl MkvClusters {
             ++ closed self.old.second (block.now.time / 1000) self.old.blocks.items) }
         ensures second { OnOk result (self.new.second ≡ block.now.time / 1000) }
         ensures blocks { OnOk result (self.new.blocks.items
-            ≡ kept self.old.second (block.now.time / 1000) self.old.blocks.items ++ simple_block (block_shown block.now)) }
+            ≡ kept self.old.second (block.now.time / 1000) self.old.blocks.items
+            ++ simple_block (block_shown block.now)) }
     {
         let next = block.time / 1000;
         close_cluster(alloc, self.second, next, &mut self.blocks, out)?;

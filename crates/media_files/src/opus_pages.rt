@@ -29,8 +29,8 @@ pub fn push_opus_front(
     push_tags_page(alloc, stream.serial, is_last, out)
 }
 
-/// The packets of a stream so far: the last one that came whole, how many samples there were, and the number of the next
-/// page.
+/// The packets of a stream so far: the last one that came whole, how many samples there were, and the number of the
+/// next page.
 #[derive(Debug, Drop)]
 pub struct OpusPages {
     serial: u32,
@@ -72,7 +72,8 @@ impl OpusPages {
     ) -> Result<(), RecordingError>
         ensures written { OnOk result (out.new.items ≡ out.old.items
             ++ sound_page self.old.serial (playing_shown self.old) (item packet.entry) is_last) }
-        ensures after { OnOk result (playing_shown self.new ≡ playing_after (playing_shown self.old) (item packet.entry)) }
+        ensures after { OnOk result (playing_shown self.new
+            ≡ playing_after (playing_shown self.old) (item packet.entry)) }
         ensures serial { self.new.serial ≡ self.old.serial }
         ensures refused { IfErr result (λ e. e ≢ RecordingError.Memory → (e ≡ RecordingError.TooLong)
             × ((self.old.sequence ≡ 4294967295) ⊎ IsLong (item packet.entry))) }

@@ -4,7 +4,8 @@ use Rattle.std.proofs.Common.{arith, ◌≤◌, ◌==◌, true, false, length, d
 use Rattle.std.specs.Option.{option_to_list}
 use Rattle.media_files_captures.specs.Captures.{Packet}
 use Rattle.media_files_captures.specs.Runs.{Holds}
-use Rattle.media_files_captures.specs.Pcapng.{Block, Reader, block, packet_in, interfaces_after, interfaces_of, packets_of}
+use Rattle.media_files_captures.specs.Pcapng.{Block, Reader, block, packet_in, interfaces_after, interfaces_of}
+use Rattle.media_files_captures.specs.Pcapng.{packets_of}
 use Rattle.media_files_captures.specs.Pcapng.{and_packet, option_byte, is_wanted, padded}
 use Rattle.media_files_captures.specs.Numbers.{u16_at}
 use Rattle.media_files_captures.specs.declared.interfaces.Interface.{Interface}

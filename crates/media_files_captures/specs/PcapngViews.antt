@@ -21,8 +21,8 @@ read_block (Some b) = Some (block_shown b.0, reader_shown b.1)
 abbrev pub packet_seen : Option CapturedPacket → Option Packet
 packet_seen p = option_map seen p
 
--- Bytes after the blocks that led to a section hold these packets, up to a block that isn't whole; the blocks lead on to
--- the new section.
+-- Bytes after the blocks that led to a section hold these packets, up to a block that isn't whole; the blocks lead on
+-- to the new section.
 pub record HoldsBlocks (old new : PcapngSection) (bytes : List ℕ) (packets : List Packet) (unread : List ℕ) : Type 0
   where
     pub blocks : List Block

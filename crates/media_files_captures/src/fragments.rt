@@ -166,8 +166,8 @@ fn fragment_behind(kind: u16, packet: &[u8], most: usize) -> Option<IpFragment<'
     fragment_of(kind, rest)
 }
 
-/// The fragment of an IP packet that a frame carries, or that is in at most four tunnels (GRE, VXLAN) inside it. None if
-/// it carries none, one that the capture cut, or one of a payload that is neither UDP nor GRE.
+/// The fragment of an IP packet that a frame carries, or that is in at most four tunnels (GRE, VXLAN) inside it. None
+/// if it carries none, one that the capture cut, or one of a payload that is neither UDP nor GRE.
 #[tactic(auto, unfolding(crate::specs::Fragments::fragment_in))]
 pub fn fragment_in(link: LinkType, frame: &[u8]) -> Option<IpFragment<'_>>
     ensures { option_map fragment_shown result ≡ fragment_in link frame.now }

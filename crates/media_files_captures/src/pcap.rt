@@ -118,8 +118,8 @@ fn pcap_record<'a>(header: PcapHeader, bytes: &'a [u8]) -> Option<(CapturedPacke
     Some((packet, rest_from(bytes, 16 + kept)))
 }
 
-/// The packets of records after the header of a file, up to the first that isn't whole: of all records, or of a piece of
-/// them, after which reading goes on with what is left and the bytes that follow.
+/// The packets of records after the header of a file, up to the first that isn't whole: of all records, or of a piece
+/// of them, after which reading goes on with what is left and the bytes that follow.
 ///
 /// # Errors
 /// There is no memory for the list.

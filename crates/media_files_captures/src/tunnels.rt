@@ -79,7 +79,8 @@ fn through(kind: u16, bytes: &[u8]) -> Result<(u8, &[u8]), PassedOver>
     transport(kind, packet)
 }
 
-/// The network packet in the tunnel that a packet's payload is, and its EtherType; None if it is none, or can't be read.
+/// The network packet in the tunnel that a packet's payload is, and its EtherType; None if it is none, or can't be
+/// read.
 #[tactic(auto, unfolding(crate::specs::Tunnels::tunnelled))]
 pub(crate) fn tunnelled(protocol: u8, bytes: &[u8]) -> Option<(u16, &[u8])>
     ensures { read_packet result ≡ tunnelled (extended protocol bytes.now) }

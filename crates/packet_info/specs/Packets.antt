@@ -1,5 +1,6 @@
 -- What a packet says of its frame by itself.
-use Rattle.std.specs.Prelude.{ℕ, ◌/◌, ◌%◌, ◌==◌, ◌&&◌, not, Bool, true, false, List, [], ◌∷◌, Option, Some, None, slice_get}
+use Rattle.std.specs.Prelude.{ℕ, ◌/◌, ◌%◌, ◌==◌, ◌&&◌, not, Bool, true, false, List, [], ◌∷◌, Option, Some, None}
+use Rattle.std.specs.Prelude.{slice_get}
 use Rattle.std.specs.Prelude.{if◌then◌else◌}
 use Rattle.h26x_payload_formats.specs.H264Reading.{is_h264_head, shows_type}
 use Rattle.h26x_payload_formats.specs.Reading.{is_h265_h266_head, shows_irap}

@@ -20,7 +20,7 @@ pub use payload_core_base::{
     TelephoneEvents, Vp8CodecExtra, Vp9CodecExtra, telephone_event_law,
 };
 pub use payload_core_buffer::{
-    Depacketized, DepacketizingBuffer, MAX_HELD, MIN_HELD, RtpMeta, frames_law, may_hold,
+    Depacketized, DepacketizingBuffer, MAX_HELD, MIN_HELD, RtpMeta, frames_law, is_valid_capacity,
 };
 pub use payload_core_vpx::{
     VP8_HEADER_SIZE, Vp8Depacketizer, Vp8Descriptor, Vp8DescriptorError, Vp8Packetizer, Vp8Patch,

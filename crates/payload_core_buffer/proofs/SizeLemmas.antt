@@ -1,5 +1,6 @@
 -- Bytes of packets that are held, and those that stay within a limit.
-use Rattle.std.proofs.Common.{◌≡◌, ◌⊎◌, ℕ, zero, suc, ◌+◌, ◌<◌, ◌≤◌, ◌-◌, refl, sym, ◌∙◌, ap, subst, arith, Bool, true, false, List}
+use Rattle.std.proofs.Common.{◌≡◌, ◌⊎◌, ℕ, zero, suc, ◌+◌, ◌<◌, ◌≤◌, ◌-◌, refl, sym, ◌∙◌, ap, subst, arith, Bool, true}
+use Rattle.std.proofs.Common.{false, List}
 use Rattle.std.proofs.Common.{[], ◌∷◌, length, drop, Some, None, inl, inr}
 use Rattle.std.specs.Prelude.{nat_le, cond, not, Option, unwrap_or, is_none, slice_index_or}
 use mathlib.Core.Bool.{true≢false}
@@ -192,7 +193,8 @@ module _ (hs : List Held) (h : Held) (len i : ℕ) (long : len ≡ length hs) (l
       let next : suc (len - 1 - i) ≡ len - i = omega (arith, lt) in
       ap (λ (k : ℕ). bytes_of (drop k (packets_of hs))) at
       ∙ size-at (packets_of hs) (len - 1 - i) (omega (arith, length_packets hs, long, lt))
-      ∙ ap (λ (k : ℕ). length (packet_at (packets_of hs) (len - 1 - i)).payload + bytes_of (drop k (packets_of hs))) next
+      ∙ ap (λ (k : ℕ). length (packet_at (packets_of hs) (len - 1 - i)).payload + bytes_of (drop k (packets_of hs)))
+      next
       ∙ ap (λ (p : Packet). length p.payload + bytes_of (drop (len - i) (packets_of hs))) packet
 
   pub excess-at : (bytes room : ℕ) → room + bytes_of (drop (len - i) (packets_of hs)) ≡ bytes

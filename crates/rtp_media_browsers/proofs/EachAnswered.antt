@@ -18,7 +18,7 @@ use Rattle.rtp_media_browsers.specs.AnswerLaws.{AnswersEachSection, IsAnswerTo, 
 use Rattle.rtp_media_browsers.specs.AnswerLaws.{answered_in}
 use Rattle.rtp_media_browsers.specs.AnswerLaws.{names_answered}
 use Rattle.rtp_media_browsers.specs.Following.{is_new, section_named, has_name}
-use Rattle.rtp_media_browsers.specs.ForBrowsers.{bundled_as, dressed_section, dressed_session, is_in_use}
+use Rattle.rtp_media_browsers.specs.ForBrowsers.{bundled_as, section_with_transport, session_with_transport, is_in_use}
 use Rattle.rtp_media_browsers.specs.ForBrowsers.{lite_line, mixed_line, names_in_use, shown, told_section}
 use Rattle.rtp_media_browsers.specs.ForEnds.{bundled, places_of}
 use Rattle.rtp_media_browsers.specs.Identities.{identified, is_track_of, named_line, ordered, track_line, tracks_sent}
@@ -34,12 +34,12 @@ use Rattle.rtp_media_browsers.specs.declared.error.BrowserError.{BrowserError}
 use Rattle.rtp_media_browsers.specs.declared.error.BrowserError.TheVariants as error
 use Rattle.rtp_media_browsers.specs.declared.identity.Identity.{Identity}
 use Rattle.rtp_media_browsers.specs.declared.identity.Track.{Track}
-use Rattle.rtp_media_browsers.specs.declared.plan.Place.{Place}
-use Rattle.rtp_media_browsers.specs.declared.plan.Place.TheVariants.{Free, Kept, Taken}
-use Rattle.rtp_media_browsers.specs.declared.plan.Plan.{Plan}
+use Rattle.rtp_media_browsers.specs.declared.state.Place.{Place}
+use Rattle.rtp_media_browsers.specs.declared.state.Place.TheVariants.{Free, Kept, Taken}
+use Rattle.rtp_media_browsers.specs.declared.state.BrowserState.{BrowserState}
 use Rattle.rtp_media_browsers.specs.declared.transport.Transport.{Transport}
-use Rattle.rtp_media_browsers.specs.declared.wish.Wish.{Wish}
-use Rattle.rtp_media_browsers.proofs.Dressed.{both_of}
+use Rattle.rtp_media_browsers.specs.declared.request.SectionRequest.{SectionRequest}
+use Rattle.rtp_media_browsers.proofs.WithTransport.{both_of}
 use Rattle.rtp_media_browsers.proofs.Named.{both, found_name, is_found_among, not_true, some_inside}
 use Rattle.rtp_media_browsers.proofs.Returning.{in_use, mid_same, off}
 
@@ -90,41 +90,41 @@ ordered_use : (b : Bool) (olds : List MediaLine) (m : MediaLine) → (ordered b 
 ordered_use true olds m = in_order_use (section_named olds (mid_of m)) m
 ordered_use false olds m = refl
 
-dressed_use : (t : Transport) (m : MediaLine) → (dressed_section t m).disabled ≡ m.disabled
-unfolding dressed_section
-dressed_use t m = refl
+use_with_transport : (t : Transport) (m : MediaLine) → (section_with_transport t m).disabled ≡ m.disabled
+unfolding section_with_transport
+use_with_transport t m = refl
 
-module _ (plan : Plan) (t : Transport) where
-  told_name : (m : MediaLine) → mid_of (told_section plan t m) ≡ mid_of m
-  told_name m = identified_name plan.identity (ordered plan.is_answering plan.sections (dressed_section t m))
-      ∙ ordered_name plan.is_answering plan.sections (dressed_section t m) ∙ mid_same t m
+module _ (state : BrowserState) (t : Transport) where
+  told_name : (m : MediaLine) → mid_of (told_section state t m) ≡ mid_of m
+  told_name m = identified_name state.identity (ordered state.is_answering state.sections (section_with_transport t m))
+      ∙ ordered_name state.is_answering state.sections (section_with_transport t m) ∙ mid_same t m
 
-  told_use : (m : MediaLine) → (told_section plan t m).disabled ≡ m.disabled
-  told_use m = identified_use plan.identity (ordered plan.is_answering plan.sections (dressed_section t m))
-      ∙ ordered_use plan.is_answering plan.sections (dressed_section t m) ∙ dressed_use t m
+  told_use : (m : MediaLine) → (told_section state t m).disabled ≡ m.disabled
+  told_use m = identified_use state.identity (ordered state.is_answering state.sections (section_with_transport t m))
+      ∙ ordered_use state.is_answering state.sections (section_with_transport t m) ∙ use_with_transport t m
 
-  pub told_names : (ms : List MediaLine) → mids_of (map (told_section plan t) ms) ≡ mids_of ms
+  pub told_names : (ms : List MediaLine) → mids_of (map (told_section state t) ms) ≡ mids_of ms
   told_names [] = refl
   told_names (m ∷ ms) = λ i. told_name m i ∷ told_names ms i
 
   pub told_in_use : (ms : List MediaLine) → list_all is_end_section ms ≡ true
-      → list_all is_in_use (map (told_section plan t) ms) ≡ true
+      → list_all is_in_use (map (told_section state t) ms) ≡ true
   unfolding is_in_use
   told_in_use [] h = refl
   told_in_use (m ∷ ms) h =
       let here = both_of (is_end_section m) (list_all is_end_section ms) h in
-      both (not (told_section plan t m).disabled) (list_all is_in_use (map (told_section plan t) ms))
+      both (not (told_section state t m).disabled) (list_all is_in_use (map (told_section state t) ms))
       (ap not (told_use m ∙ in_use m here.0)) (told_in_use ms here.1)
 
-  pub none_new : (ms : List MediaLine) → list_all (λ m. not (is_new plan.sections m)) ms ≡ true
-      → filter (is_new plan.sections) (map (told_section plan t) ms) ≡ []
+  pub none_new : (ms : List MediaLine) → list_all (λ m. not (is_new state.sections m)) ms ≡ true
+      → filter (is_new state.sections) (map (told_section state t) ms) ≡ []
   none_new [] h = refl
   none_new (m ∷ ms) h =
-      let here = both_of (not (is_new plan.sections m)) (list_all (λ x. not (is_new plan.sections x)) ms) h in
-      let rest = filter (is_new plan.sections) (map (told_section plan t) ms) in
-      ap (λ (b : Bool). cond b (told_section plan t m ∷ rest) rest)
-      (ap (λ (k : List ℕ). not (is_among (mids_of plan.sections) k)) (told_name m)
-      ∙ off (is_new plan.sections m) here.0)
+      let here = both_of (not (is_new state.sections m)) (list_all (λ x. not (is_new state.sections x)) ms) h in
+      let rest = filter (is_new state.sections) (map (told_section state t) ms) in
+      ap (λ (b : Bool). cond b (told_section state t m ∷ rest) rest)
+      (ap (λ (k : List ℕ). not (is_among (mids_of state.sections) k)) (told_name m)
+      ∙ off (is_new state.sections m) here.0)
       ∙ none_new ms here.1
 
 nothing_is : {A B : Type 0} (x : A) → None ≡ Some x → B
@@ -148,7 +148,8 @@ rejected_name : (m : MediaLine) → mid_of (rejected m) ≡ mid_of m
 unfolding mid_in
 rejected_name m = refl
 
-module _ (bundle : List (List ℕ)) (wishes : List Wish) (ms : List MediaLine) (used : list_all is_in_use ms ≡ true) where
+module _ (bundle : List (List ℕ)) (requests : List SectionRequest) (ms : List MediaLine)
+    (used : list_all is_in_use ms ≡ true) where
   -- what is at the place of a section, and after it
   at_one : (m : MediaLine) (b : Bool) → is_found (mids_of ms) (cond b (Taken (rejected m)) (Kept (mid_of m))) ≡ true
       → (rest : List MediaLine) (names : List (List ℕ)) (flags : List Bool) → mids_of rest ≡ names
@@ -172,19 +173,20 @@ module _ (bundle : List (List ℕ)) (wishes : List Wish) (ms : List MediaLine) (
   none_after (Taken r) = refl
   none_after (Free r) = refl
 
-  pub at_all : (n : ℕ) (os : List MediaLine) → list_all (is_found (mids_of ms)) (places_from bundle wishes n os) ≡ true
-      → (mids_of (placed_from ms (places_from bundle wishes n os) []) ≡ mids_of os)
-      × (map is_in_use (placed_from ms (places_from bundle wishes n os) []) ≡ answered_from bundle wishes n os)
+  pub at_all : (n : ℕ) (os : List MediaLine) → list_all (is_found (mids_of ms)) (places_from bundle requests n os)
+      ≡ true
+      → (mids_of (placed_from ms (places_from bundle requests n os) []) ≡ mids_of os)
+      × (map is_in_use (placed_from ms (places_from bundle requests n os) []) ≡ answered_from bundle requests n os)
   at_all n [] h = (refl, refl)
   at_all n (m ∷ os) h =
-      let here = both_of (is_found (mids_of ms) (place_of bundle (slice_get wishes n) m))
-      (list_all (is_found (mids_of ms)) (places_from bundle wishes (suc n) os)) h in
+      let here = both_of (is_found (mids_of ms) (place_of bundle (slice_get requests n) m))
+      (list_all (is_found (mids_of ms)) (places_from bundle requests (suc n) os)) h in
       let later = at_all (suc n) os here.1 in
-      let ps = places_from bundle wishes (suc n) os in
-      let same = ap (placed_from ms ps) (none_after (place_of bundle (slice_get wishes n) m)) in
-      at_one m (is_taken bundle (slice_get wishes n) m) here.0
-      (placed_from ms ps (after_place (place_of bundle (slice_get wishes n) m) [])) (mids_of os)
-      (answered_from bundle wishes (suc n) os) (ap mids_of same ∙ later.0) (ap (map is_in_use) same ∙ later.1)
+      let ps = places_from bundle requests (suc n) os in
+      let same = ap (placed_from ms ps) (none_after (place_of bundle (slice_get requests n) m)) in
+      at_one m (is_taken bundle (slice_get requests n) m) here.0
+      (placed_from ms ps (after_place (place_of bundle (slice_get requests n) m) [])) (mids_of os)
+      (answered_from bundle requests (suc n) os) (ap mids_of same ∙ later.0) (ap (map is_in_use) same ∙ later.1)
 
 -- the names in use are those of the sections that are answered
 names_step : (x : MediaLine) (xs : List MediaLine) (b : Bool)
@@ -237,52 +239,55 @@ not_refused : (b : Bool) (e : BrowserError) → refused_if (not b) e ≡ None �
 not_refused true e h = refl
 not_refused false e h = absurd (cc)
 
-planned : (plan : Plan) (t : Transport) (sdp : Sdp) → browser_refusal plan t sdp ≡ None
-    → list_all (is_found (mids_of sdp.media_lines)) plan.places ≡ true
-planned plan t sdp h =
-    let last = refused_if (not (has_planned plan sdp.media_lines)) error.NotCorresponding in
-    let third = refused_if (not (may_say plan.is_answering t.setup plan.setup plan.remote.setup)) error.SetupNotFit in
+planned : (state : BrowserState) (t : Transport) (sdp : Sdp) → browser_refusal state t sdp ≡ None
+    → list_all (is_found (mids_of sdp.media_lines)) state.places ≡ true
+planned state t sdp h =
+    let last = refused_if (not (has_planned state sdp.media_lines)) error.NotCorresponding in
+    let third = refused_if (not (may_say state.is_answering t.setup state.setup state.remote.setup)) error.SetupNotFit
+    in
     let second = refused_if (not (are_ice_chars 22 t.creds.pass)) error.PasswordNotFit in
     let first = refused_if (not (are_ice_chars 4 t.creds.ufrag)) error.UfragNotFit in
-    let found = not_refused (has_planned plan sdp.media_lines) error.NotCorresponding
+    let found = not_refused (has_planned state sdp.media_lines) error.NotCorresponding
     (second_none third last (second_none second (option_or third last)
     (second_none first (option_or second (option_or third last)) h))) in
-    (both_of (begin_with (mids_of plan.sections) sdp.media_lines)
-    (list_all (is_found (mids_of sdp.media_lines)) plan.places) found).1
+    (both_of (begin_with (mids_of state.sections) sdp.media_lines)
+    (list_all (is_found (mids_of sdp.media_lines)) state.places) found).1
 
-shown_bundles : (plan : Plan) (t : Transport) (s : Session) (all : List MediaLine)
-    → AreBundlesOf (names_in_use all) (shown plan t s all).session.attrs
-unfolding shown dressed_session
-shown_bundles plan t s all =
+shown_bundles : (state : BrowserState) (t : Transport) (s : Session) (all : List MediaLine)
+    → AreBundlesOf (names_in_use all) (shown state t s all).session.attrs
+unfolding shown session_with_transport
+shown_bundles state t s all =
     bundles_both (names_in_use all)
-    (map (bundled_as (names_in_use all)) s.attrs ++ mixed_line plan.allows_mixed) (lite_line t.is_lite)
+    (map (bundled_as (names_in_use all)) s.attrs ++ mixed_line state.allows_mixed) (lite_line t.is_lite)
     (bundles_both (names_in_use all) (map (bundled_as (names_in_use all)) s.attrs)
-    (mixed_line plan.allows_mixed) (bundles_mapped (names_in_use all) s.attrs)
-    (no_bundle_mixed (names_in_use all) plan.allows_mixed)) (no_bundle_lite (names_in_use all) t.is_lite)
+    (mixed_line state.allows_mixed) (bundles_mapped (names_in_use all) s.attrs)
+    (no_bundle_mixed (names_in_use all) state.allows_mixed)) (no_bundle_lite (names_in_use all) t.is_lite)
 
-answer_of : (wishes : List Wish) (offer : Sdp) (plan : Plan) (t : Transport) (sdp : Sdp) (all : List MediaLine)
-    → mids_of all ≡ mids_of offer.media_lines → map is_in_use all ≡ answered_in wishes offer
-    → IsAnswerTo wishes offer (shown plan t sdp.session all)
+answer_of : (requests : List SectionRequest) (offer : Sdp) (state : BrowserState) (t : Transport) (sdp : Sdp)
+    (all : List MediaLine)
+    → mids_of all ≡ mids_of offer.media_lines → map is_in_use all ≡ answered_in requests offer
+    → IsAnswerTo requests offer (shown state t sdp.session all)
 unfolding shown
-answer_of wishes offer plan t sdp all names flags = record {
+answer_of requests offer state t sdp all names flags = record {
   names = names;
   ports = flags;
-  bundles = subst (λ (x : List (List ℕ)). AreBundlesOf x (shown plan t sdp.session all).session.attrs)
-      (names_by all ∙ (λ i. names_answered (flags i) (names i))) (shown_bundles plan t sdp.session all);
+  bundles = subst (λ (x : List (List ℕ)). AreBundlesOf x (shown state t sdp.session all).session.attrs)
+      (names_by all ∙ (λ i. names_answered (flags i) (names i))) (shown_bundles state t sdp.session all);
 }
 
 pub answers_each_section : AnswersEachSection
-answers_each_section plan t wishes offer sdp places passes ends olds =
-    let ms = map (told_section plan t) sdp.media_lines in
-    let found = subst (λ (x : List (List ℕ)). list_all (is_found x) (places_of wishes offer) ≡ true)
-    (sym (told_names plan t sdp.media_lines))
+answers_each_section state t requests offer sdp places passes ends olds =
+    let ms = map (told_section state t) sdp.media_lines in
+    let found = subst (λ (x : List (List ℕ)). list_all (is_found x) (places_of requests offer) ≡ true)
+    (sym (told_names state t sdp.media_lines))
     (subst (λ (x : List Place). list_all (is_found (mids_of sdp.media_lines)) x ≡ true) places
-    (planned plan t sdp passes)) in
-    let each = at_all (bundled offer) wishes ms (told_in_use plan t sdp.media_lines ends) 0 offer.media_lines found in
-    let all_is : placed_from ms plan.places (filter (is_new plan.sections) ms)
-    ≡ placed_from ms (places_of wishes offer) [] =
-    λ i. placed_from ms (places i) (none_new plan t sdp.media_lines olds i) in
-    answer_of wishes offer plan t sdp _ (ap mids_of all_is ∙ each.0) (ap (map is_in_use) all_is ∙ each.1)
+    (planned state t sdp passes)) in
+    let each = at_all (bundled offer) requests ms (told_in_use state t sdp.media_lines ends) 0 offer.media_lines found
+    in
+    let all_is : placed_from ms state.places (filter (is_new state.sections) ms)
+    ≡ placed_from ms (places_of requests offer) [] =
+    λ i. placed_from ms (places i) (none_new state t sdp.media_lines olds i) in
+    answer_of requests offer state t sdp _ (ap mids_of all_is ∙ each.0) (ap (map is_in_use) all_is ∙ each.1)
 
 -- a section is at each place, if the end has those that have one
 one_at : (ms news : List MediaLine) (p : Place) → is_found (mids_of ms) p ≡ true → 1 ≤ length (at_place ms news p)
@@ -306,11 +311,11 @@ placed_length ms news (p ∷ ps) h =
 
 pub texts_are_whole : TextsAreWhole
 unfolding shown
-texts_are_whole plan t sdp passes =
-    let ms = map (told_section plan t) sdp.media_lines in
-    let found = subst (λ (x : List (List ℕ)). list_all (is_found x) plan.places ≡ true)
-    (sym (told_names plan t sdp.media_lines)) (planned plan t sdp passes) in
+texts_are_whole state t sdp passes =
+    let ms = map (told_section state t) sdp.media_lines in
+    let found = subst (λ (x : List (List ℕ)). list_all (is_found x) state.places ≡ true)
+    (sym (told_names state t sdp.media_lines)) (planned state t sdp passes) in
     record {
-      sections = placed_length ms (filter (is_new plan.sections) ms) plan.places found;
-      bundles = shown_bundles plan t sdp.session (placed_from ms plan.places (filter (is_new plan.sections) ms));
+      sections = placed_length ms (filter (is_new state.sections) ms) state.places found;
+      bundles = shown_bundles state t sdp.session (placed_from ms state.places (filter (is_new state.sections) ms));
     }

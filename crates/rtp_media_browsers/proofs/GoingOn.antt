@@ -17,10 +17,10 @@ use Rattle.rtp_media_browsers.specs.Following.{current, halted, is_new, is_of_ty
 use Rattle.rtp_media_browsers.specs.Laws.{AreWanted, GoesOn, IsHalted}
 use Rattle.rtp_media_browsers.specs.Names.{mids_of}
 use Rattle.rtp_media_browsers.specs.Refusals.{begin_with}
-use Rattle.rtp_media_browsers.specs.Wanted.{number_from, wanted, wanted_in, wish_at}
-use Rattle.rtp_media_browsers.specs.declared.plan.Plan.{Plan}
-use Rattle.rtp_media_browsers.specs.declared.wish.Wish.{Wish}
-use Rattle.rtp_media_browsers.specs.declared.wish.Wish.TheVariants.{Accept, Reject}
+use Rattle.rtp_media_browsers.specs.Wanted.{number_from, wanted, wanted_in, request_at}
+use Rattle.rtp_media_browsers.specs.declared.state.BrowserState.{BrowserState}
+use Rattle.rtp_media_browsers.specs.declared.request.SectionRequest.{SectionRequest}
+use Rattle.rtp_media_browsers.specs.declared.request.SectionRequest.TheVariants.{Accept, Reject}
 use Rattle.rtp_media_browsers.proofs.Named.{both, found_name, some_inside}
 
 -- lines of payload types name no source
@@ -108,30 +108,30 @@ goes_on olds ms = record {
       ∙ ap (λ (o : Option MediaLine). Some (unwrap_or o (halted old))) none;
 }
 
-wanted_mid : (o : Option Wish) (m : MediaLine) → (wanted o m).mid ≡ mid_of m
+wanted_mid : (o : Option SectionRequest) (m : MediaLine) → (wanted o m).mid ≡ mid_of m
 wanted_mid None m = refl
 wanted_mid (Some (Accept direction ssrcs repairs)) m = refl
 wanted_mid (Some Reject) m = refl
 
-wanted_kind : (o : Option Wish) (m : MediaLine) → (wanted o m).kind ≡ kind_of m.typ
+wanted_kind : (o : Option SectionRequest) (m : MediaLine) → (wanted o m).kind ≡ kind_of m.typ
 wanted_kind None m = refl
 wanted_kind (Some (Accept direction ssrcs repairs)) m = refl
 wanted_kind (Some Reject) m = refl
 
-module _ (plan : Plan) (wishes : List Wish) where
-  wanted_mids : (ms : List MediaLine) → map (λ (w : Wanted). w.mid) (map (wanted_in plan wishes) ms) ≡ mids_of ms
+module _ (state : BrowserState) (requests : List SectionRequest) where
+  wanted_mids : (ms : List MediaLine) → map (λ (w : Wanted). w.mid) (map (wanted_in state requests) ms) ≡ mids_of ms
   wanted_mids [] = refl
   wanted_mids (m ∷ ms) =
-      λ i. wanted_mid (wish_at wishes (number_from (mid_of m) 0 plan.places)) m i ∷ wanted_mids ms i
+      λ i. wanted_mid (request_at requests (number_from (mid_of m) 0 state.places)) m i ∷ wanted_mids ms i
 
   wanted_kinds : (ms : List MediaLine)
-      → map (λ (w : Wanted). w.kind) (map (wanted_in plan wishes) ms) ≡ map (λ (m : MediaLine). kind_of m.typ) ms
+      → map (λ (w : Wanted). w.kind) (map (wanted_in state requests) ms) ≡ map (λ (m : MediaLine). kind_of m.typ) ms
   wanted_kinds [] = refl
   wanted_kinds (m ∷ ms) =
-      λ i. wanted_kind (wish_at wishes (number_from (mid_of m) 0 plan.places)) m i ∷ wanted_kinds ms i
+      λ i. wanted_kind (request_at requests (number_from (mid_of m) 0 state.places)) m i ∷ wanted_kinds ms i
 
-pub are_wanted : (plan : Plan) (wishes : List Wish) → AreWanted plan wishes
-are_wanted plan wishes = record {
-  names = wanted_mids plan wishes plan.sections;
-  kinds = wanted_kinds plan wishes plan.sections;
+pub are_wanted : (state : BrowserState) (requests : List SectionRequest) → AreWanted state requests
+are_wanted state requests = record {
+  names = wanted_mids state requests state.sections;
+  kinds = wanted_kinds state requests state.sections;
 }

@@ -1,4 +1,4 @@
--- What holds of wishes with sections rejected that have no row in common.
+-- What holds of requests with sections rejected that have no row in common.
 use Rattle.std.proofs.Common.{◌≡◌, ◌⊎◌, ◌∙◌, ◌&&◌, ◌||◌, ℕ, suc, zero, ap, refl, subst, sym, Bool, true, false, not}
 use Rattle.std.proofs.Common.{cond}
 use Rattle.std.proofs.Common.{List, [], ◌∷◌, Option, None, Some, Result, Ok, Err, filter, find, inl, inr, is_some}
@@ -31,50 +31,50 @@ use Rattle.rtp_media_browsers.specs.InCommon.{has_named, left_of, names_none, na
 use Rattle.rtp_media_browsers.specs.Names.{is_among}
 use Rattle.rtp_media_browsers.specs.Places.{is_place_of}
 use Rattle.rtp_media_browsers.specs.Wanted.{number_from}
-use Rattle.rtp_media_browsers.specs.declared.plan.Place.{Place}
-use Rattle.rtp_media_browsers.specs.declared.plan.Place.TheVariants.{Free, Kept, Taken}
-use Rattle.rtp_media_browsers.specs.declared.wish.Wish.{Wish}
-use Rattle.rtp_media_browsers.specs.declared.wish.Wish.TheVariants.{Reject}
+use Rattle.rtp_media_browsers.specs.declared.state.Place.{Place}
+use Rattle.rtp_media_browsers.specs.declared.state.Place.TheVariants.{Free, Kept, Taken}
+use Rattle.rtp_media_browsers.specs.declared.request.SectionRequest.{SectionRequest}
+use Rattle.rtp_media_browsers.specs.declared.request.SectionRequest.TheVariants.{Reject}
 use Rattle.rtp_media_browsers.proofs.Named.{not_true}
 
--- each wish stays, or rejects
-one_wish : (b : Bool) (w : Wish) → (Some (left_of b w) ≡ Some w) ⊎ (Some (left_of b w) ≡ Some Reject)
-one_wish true w = inr refl
-one_wish false w = inl refl
+-- each request stays, or rejects
+one_request : (b : Bool) (w : SectionRequest) → (Some (left_of b w) ≡ Some w) ⊎ (Some (left_of b w) ≡ Some Reject)
+one_request true w = inr refl
+one_request false w = inl refl
 
-each_wish : (names : List (List ℕ)) (ps : List Place) (ws : List Wish) (n : ℕ)
+each_request : (names : List (List ℕ)) (ps : List Place) (ws : List SectionRequest) (n : ℕ)
     → (slice_get (without_named names ps ws) n ≡ slice_get ws n)
     ⊎ (slice_get (without_named names ps ws) n ≡ Some Reject)
-each_wish names ps [] n = inl refl
-each_wish names [] (w ∷ ws) zero = inl refl
-each_wish names [] (w ∷ ws) (suc n) = each_wish names [] ws n
-each_wish names (p ∷ ps) (w ∷ ws) zero = one_wish (has_named names p) w
-each_wish names (p ∷ ps) (w ∷ ws) (suc n) = each_wish names ps ws n
+each_request names ps [] n = inl refl
+each_request names [] (w ∷ ws) zero = inl refl
+each_request names [] (w ∷ ws) (suc n) = each_request names [] ws n
+each_request names (p ∷ ps) (w ∷ ws) zero = one_request (has_named names p) w
+each_request names (p ∷ ps) (w ∷ ws) (suc n) = each_request names ps ws n
 
-same_length : (names : List (List ℕ)) (ps : List Place) (ws : List Wish)
+same_length : (names : List (List ℕ)) (ps : List Place) (ws : List SectionRequest)
     → length (without_named names ps ws) ≡ length ws
 same_length names ps [] = refl
 same_length names [] (w ∷ ws) = ap suc (same_length names [] ws)
 same_length names (p ∷ ps) (w ∷ ws) = ap suc (same_length names ps ws)
 
-both_stay : (x y z : Option Wish) → (y ≡ x) ⊎ (y ≡ Some Reject) → (z ≡ y) ⊎ (z ≡ Some Reject)
+both_stay : (x y z : Option SectionRequest) → (y ≡ x) ⊎ (y ≡ Some Reject) → (z ≡ y) ⊎ (z ≡ Some Reject)
     → (z ≡ x) ⊎ (z ≡ Some Reject)
 both_stay x y z (inl a) (inl b) = inl (b ∙ a)
 both_stay x y z (inr a) (inl b) = inr (b ∙ a)
 both_stay x y z h (inr b) = inr b
 
 pub only_rejects : OnlyRejects
-only_rejects offer plan rows zero before after h =
-    subst (OthersStay before) h (record { length = refl; wishes = λ n. inl refl })
-only_rejects offer plan rows (suc times) before after h =
+only_rejects offer state rows zero before after h =
+    subst (OthersStay before) h (record { length = refl; requests = λ n. inl refl })
+only_rejects offer state rows (suc times) before after h =
     let between = h.0 in
     let r = h.2 in
-    let kept = only_rejects offer plan rows times before between h.1 in
+    let kept = only_rejects offer state rows times before between h.1 in
     subst (OthersStay before) (sym r.rejected) (record {
       length = same_length r.names r.planned.places between ∙ kept.length;
-      wishes = λ n. both_stay (slice_get before n) (slice_get between n)
-          (slice_get (without_named r.names r.planned.places between) n) (kept.wishes n)
-          (each_wish r.names r.planned.places between n);
+      requests = λ n. both_stay (slice_get before n) (slice_get between n)
+          (slice_get (without_named r.names r.planned.places between) n) (kept.requests n)
+          (each_request r.names r.planned.places between n);
     })
 
 -- what is read of a text is what it says to an end
@@ -208,14 +208,14 @@ module _ (mid : List ℕ) where
   no_place names n (Free r ∷ ps) among off = no_place names (suc n) ps among off
 
 pub answers_in_common : AnswersInCommon
-answers_in_common offer plan planned wishes handed x wanted mid has passes (inl unread) = absurd unread
-answers_in_common offer plan planned wishes handed x wanted mid has passes (inr refused) =
+answers_in_common offer state planned requests handed x wanted mid has passes (inl unread) = absurd unread
+answers_in_common offer state planned requests handed x wanted mid has passes (inr refused) =
     let first = has.lacks.passes in
     let same = (first.says.1 passes.sdp [] passes.says.0).0 in
-    let places = passes.planned.places ∙ ap (places_of wishes) same ∙ sym first.planned.places in
-    let text = one_handed offer first.sdp (without plan.sections (places_of wishes first.sdp) first.sdp) handed
+    let places = passes.planned.places ∙ ap (places_of requests) same ∙ sym first.planned.places in
+    let text = one_handed offer first.sdp (without state.sections (places_of requests first.sdp) first.sdp) handed
     has.lacks.handed
-    (subst (λ (s : Sdp). IsHanded offer s (without plan.sections (places_of wishes s) s) handed) same
+    (subst (λ (s : Sdp). IsHanded offer s (without state.sections (places_of requests s) s) handed) same
     passes.handed) first.handed in
     let sections = one_reading has.lacks.handed has.lacks.sections refused.0 has.lacks.says
     (subst (λ t. SaysSections t refused.0) text refused.1) in

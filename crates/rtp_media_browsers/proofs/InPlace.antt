@@ -14,10 +14,10 @@ use Rattle.rtp_media_browsers.specs.Names.{mids_of}
 use Rattle.rtp_media_browsers.specs.Places.{after_place, at_place, if_any, is_taken, placed_from}
 use Rattle.rtp_media_browsers.specs.Places.{places_from, rejected}
 use Rattle.rtp_media_browsers.specs.Refusals.{is_found}
-use Rattle.rtp_media_browsers.specs.declared.plan.Place.{Place}
-use Rattle.rtp_media_browsers.specs.declared.plan.Place.TheVariants.{Free, Kept, Taken}
-use Rattle.rtp_media_browsers.specs.declared.wish.Wish.{Wish}
-use Rattle.rtp_media_browsers.proofs.Dressed.{both_of}
+use Rattle.rtp_media_browsers.specs.declared.state.Place.{Place}
+use Rattle.rtp_media_browsers.specs.declared.state.Place.TheVariants.{Free, Kept, Taken}
+use Rattle.rtp_media_browsers.specs.declared.request.SectionRequest.{SectionRequest}
+use Rattle.rtp_media_browsers.proofs.WithTransport.{both_of}
 use Rattle.rtp_media_browsers.proofs.Named.{is_found_among}
 
 some_of : (o : Option MediaLine) (m : MediaLine) → if_any o ≡ m ∷ [] → Some m ≡ o
@@ -116,13 +116,13 @@ each_in_its_place ps olds ms found = record {
   added = added ms ps (filter (is_new olds) ms) found;
 }
 
-module _ (bundle : List (List ℕ)) (wishes : List Wish) where
-  all_rejected : (n : ℕ) (ms : List MediaLine) → AreRejections (places_from bundle wishes n ms)
+module _ (bundle : List (List ℕ)) (requests : List SectionRequest) where
+  all_rejected : (n : ℕ) (ms : List MediaLine) → AreRejections (places_from bundle requests n ms)
   all_rejected n [] = tt
   all_rejected n (m ∷ ms) =
       let rest = all_rejected (suc n) ms in
-      cond_both (is_taken bundle (slice_get wishes n) m) (Taken (rejected m)) (Kept (mid_of m))
-      (λ p. AreRejections (p ∷ places_from bundle wishes (suc n) ms)) (λ _. ((m, refl), rest)) (λ _. rest)
+      cond_both (is_taken bundle (slice_get requests n) m) (Taken (rejected m)) (Kept (mid_of m))
+      (λ p. AreRejections (p ∷ places_from bundle requests (suc n) ms)) (λ _. ((m, refl), rest)) (λ _. rest)
 
 pub taken_are_rejected : TakenAreRejected
-taken_are_rejected wishes sdp = all_rejected (bundled sdp) wishes 0 sdp.media_lines
+taken_are_rejected requests sdp = all_rejected (bundled sdp) requests 0 sdp.media_lines

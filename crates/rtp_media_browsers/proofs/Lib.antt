@@ -1,7 +1,7 @@
 pub mod Asked
-pub mod Dressed
+pub mod WithTransport
 pub mod GoingOn
-pub mod FewerWishes
+pub mod FewerRequests
 pub mod InCommonLaws
 pub mod InPlace
 pub mod Named

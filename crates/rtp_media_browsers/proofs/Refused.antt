@@ -2,7 +2,7 @@
 use Rattle.std.proofs.Common.{◌≡◌, ◌∙◌, ap, inl, inr, refl, subst, sym, ℕ, false, List, Option, None, Some, Err}
 use Rattle.sdp_formats_data.specs.declared.session.Sdp.{Sdp}
 use Rattle.sdp_formats_values.specs.declared.setup.Setup.{Setup}
-use Rattle.rtp_media_browsers.specs.Calls.{IsDressed, IsRefused, IsUndressed, told_places}
+use Rattle.rtp_media_browsers.specs.Calls.{HasTransport, IsRefused, HasNoTransport, told_places}
 use Rattle.rtp_media_browsers.specs.Fit.{settled}
 use Rattle.rtp_media_browsers.specs.ForBrowsers.{for_browser}
 use Rattle.rtp_media_browsers.specs.Identities.{said_of, told_text}
@@ -11,8 +11,8 @@ use Rattle.rtp_media_browsers.specs.Refusals.{Checks, browser_refusal}
 use Rattle.rtp_media_browsers.specs.declared.error.BrowserError.{BrowserError}
 use Rattle.rtp_media_browsers.specs.declared.error.BrowserError.TheVariants as error
 use Rattle.rtp_media_browsers.specs.declared.identity.Said.{Said}
-use Rattle.rtp_media_browsers.specs.declared.plan.Place.{Place}
-use Rattle.rtp_media_browsers.specs.declared.plan.Plan.{Plan}
+use Rattle.rtp_media_browsers.specs.declared.state.Place.{Place}
+use Rattle.rtp_media_browsers.specs.declared.state.BrowserState.{BrowserState}
 use Rattle.rtp_media_browsers.specs.declared.transport.Transport.{Transport}
 
 module _ (text : List ℕ) (f : Sdp → Option BrowserError) where
@@ -40,23 +40,23 @@ module _ (text : List ℕ) (f : Sdp → Option BrowserError) where
   tested sdp error.SetupNotFit whole h = inr (sdp, (whole, h))
   tested sdp error.NotWritable whole h = inr (sdp, (whole, h))
 
-module _ (text : List ℕ) (plan : Plan) (t : Transport) where
-  pub own_refused : (e : BrowserError) → IsRefused text (browser_refusal plan t) e → IsUndressed text plan t e
+module _ (text : List ℕ) (state : BrowserState) (t : Transport) where
+  pub own_refused : (e : BrowserError) → IsRefused text (browser_refusal state t) e → HasNoTransport text state t e
   own_refused e is = inl is
 
-  pub own_unread : (e : BrowserError) → IsUnread text e → IsUndressed text plan t e
-  own_unread e is = inl (unread text (browser_refusal plan t) e is)
+  pub own_unread : (e : BrowserError) → IsUnread text e → HasNoTransport text state t e
+  own_unread e is = inl (unread text (browser_refusal state t) e is)
 
-  pub own_want : (e : BrowserError) → e ≡ error.Memory → IsUndressed text plan t e
-  own_want e is = inl (want_of_memory text (browser_refusal plan t) e is)
+  pub own_want : (e : BrowserError) → e ≡ error.Memory → HasNoTransport text state t e
+  own_want e is = inl (want_of_memory text (browser_refusal state t) e is)
 
   pub own_tested : (sdp : Sdp) (e : BrowserError) → SaysWhole text sdp
-      → Checks {A = Unit {0}} (browser_refusal plan t sdp) (Err e) → IsUndressed text plan t e
-  own_tested sdp e whole h = inl (tested text (browser_refusal plan t) sdp e whole h)
+      → Checks {A = Unit {0}} (browser_refusal state t sdp) (Err e) → HasNoTransport text state t e
+  own_tested sdp e whole h = inl (tested text (browser_refusal state t) sdp e whole h)
 
-  pub own_unwritten : (sdp : Sdp) (e : BrowserError) → SaysWhole text sdp → browser_refusal plan t sdp ≡ None
-      → IsUnwritten (told_text plan.identity plan.said (for_browser plan t sdp)) (for_browser plan t sdp) e
-      → IsUndressed text plan t e
+  pub own_unwritten : (sdp : Sdp) (e : BrowserError) → SaysWhole text sdp → browser_refusal state t sdp ≡ None
+      → IsUnwritten (told_text state.identity state.said (for_browser state t sdp)) (for_browser state t sdp) e
+      → HasNoTransport text state t e
   own_unwritten sdp error.Memory whole passes h = inl (inl tt)
   own_unwritten sdp error.NotWritable whole passes h = inr (refl, (sdp, (whole, passes, h)))
   own_unwritten sdp error.Unreadable whole passes h = absurd h
@@ -73,29 +73,31 @@ module _ (text : List ℕ) (plan : Plan) (t : Transport) where
   own_unwritten sdp error.PasswordNotFit whole passes h = absurd h
   own_unwritten sdp error.SetupNotFit whole passes h = absurd h
 
-  pub own_unwritten_by : (sdp d : Sdp) (e : BrowserError) → SaysWhole text sdp → browser_refusal plan t sdp ≡ None
-      → d ≡ for_browser plan t sdp → IsUnwritten (told_text plan.identity plan.said d) d e → IsUndressed text plan t e
+  pub own_unwritten_by : (sdp d : Sdp) (e : BrowserError) → SaysWhole text sdp → browser_refusal state t sdp ≡ None
+      → d ≡ for_browser state t sdp → IsUnwritten (told_text state.identity state.said d) d e
+      → HasNoTransport text state t e
   own_unwritten_by sdp d e whole passes is h =
-      own_unwritten sdp e whole passes (subst (λ (x : Sdp). IsUnwritten (told_text plan.identity plan.said x) x e) is h)
+      own_unwritten sdp e whole passes (subst (λ (x : Sdp). IsUnwritten (told_text state.identity state.said x) x e) is
+      h)
 
   -- what a browser gets
-  pub is_dressed : (sdp d : Sdp) (places : List Place) (setup : Option Setup) (out : List ℕ) (said : Said)
+  pub has_transport : (sdp d : Sdp) (places : List Place) (setup : Option Setup) (out : List ℕ) (said : Said)
       → SaysWhole text sdp
-      → browser_refusal plan t sdp ≡ None → d ≡ for_browser plan t sdp
-      → IsWritten (told_text plan.identity plan.said d) d out → said ≡ said_of plan.identity plan.said d
-      → places ≡ told_places plan → setup ≡ settled plan.setup t.setup
-      → IsDressed text plan t
-      (record plan { places = places; setup = setup; is_answering = false; said = Some said }) out
-  is_dressed sdp d places setup out said whole passes is written remembered told role = record {
+      → browser_refusal state t sdp ≡ None → d ≡ for_browser state t sdp
+      → IsWritten (told_text state.identity state.said d) d out → said ≡ said_of state.identity state.said d
+      → places ≡ told_places state → setup ≡ settled state.setup t.setup
+      → HasTransport text state t
+      (record state { places = places; setup = setup; is_answering = false; said = Some said }) out
+  has_transport sdp d places setup out said whole passes is written remembered told role = record {
     sdp = sdp;
     says = whole;
     passes = passes;
-    settles = λ i. record plan {
+    settles = λ i. record state {
       places = told i;
       setup = role i;
       is_answering = false;
-      said = Some ((remembered ∙ ap (said_of plan.identity plan.said) is) i);
+      said = Some ((remembered ∙ ap (said_of state.identity state.said) is) i);
     };
-    dressed = written.0 ∙ ap (told_text plan.identity plan.said) is;
+    with_transport = written.0 ∙ ap (told_text state.identity state.said) is;
     read = subst (SaysWhole out) is written.1;
   }

@@ -12,13 +12,13 @@ use Rattle.sdp_formats_data.specs.declared.media.MediaAttribute.{MediaAttribute}
 use Rattle.sdp_formats_data.specs.declared.media.MediaAttribute.TheVariants as line
 use Rattle.sdp_formats_data.specs.declared.media.MediaLine.{MediaLine}
 use Rattle.sdp_formats_data.specs.Sections.{extmap_in}
-use Rattle.rtp_media_browsers.specs.ForBrowsers.{dressed_section}
+use Rattle.rtp_media_browsers.specs.ForBrowsers.{section_with_transport}
 use Rattle.rtp_media_browsers.specs.ForEnds.{end_section}
 use Rattle.rtp_media_browsers.specs.Laws.{LinesStay, has_no_transport, is_end_section}
 use Rattle.rtp_media_browsers.specs.Lines.{is_bundle_only, is_transport, stays}
 use Rattle.rtp_media_browsers.specs.Names.{mids_of}
 use Rattle.rtp_media_browsers.specs.declared.transport.Transport.{Transport}
-use Rattle.rtp_media_browsers.proofs.Dressed.{both_of, first_same, kept_same, listed_same}
+use Rattle.rtp_media_browsers.proofs.WithTransport.{both_of, first_same, kept_same, listed_same}
 
 -- a list all of whose elements pass is not shortened
 pub all_kept : {A : Type 0} (p : A → Bool) (xs : List A) → list_all p xs ≡ true → filter p xs ≡ xs
@@ -65,8 +65,9 @@ pub section_same : (m : MediaLine) → is_end_section m ≡ true → end_section
 unfolding end_section
 section_same m h = λ i. record m { disabled = sym (in_use m h) i; attrs = attributes_same m h i }
 
-pub section_back : (t : Transport) (m : MediaLine) → is_end_section m ≡ true → end_section (dressed_section t m) ≡ m
-unfolding end_section dressed_section
+pub section_back : (t : Transport) (m : MediaLine) → is_end_section m ≡ true → end_section (section_with_transport t m)
+    ≡ m
+unfolding end_section section_with_transport
 section_back t m h =
     let attrs = kept_same (stays m.disabled) (λ a. not_staying m.disabled a) t m.attrs ∙ attributes_same m h in
     λ i. record m { disabled = sym (in_use m h) i; attrs = attrs i }
@@ -78,7 +79,7 @@ sections_same (m ∷ ms) h =
     λ i. section_same m here.0 i ∷ sections_same ms here.1 i
 
 pub sections_back : (t : Transport) (ms : List MediaLine) → list_all is_end_section ms ≡ true
-    → map end_section (map (dressed_section t) ms) ≡ ms
+    → map end_section (map (section_with_transport t) ms) ≡ ms
 sections_back t [] h = refl
 sections_back t (m ∷ ms) h =
     let here = both_of (is_end_section m) (list_all is_end_section ms) h in
@@ -90,11 +91,11 @@ unfolding is_transport mid_in
 no_mid (line.Mid mid) h = cc
 no_mid _ h = refl
 
-pub mid_same : (t : Transport) (m : MediaLine) → mid_of (dressed_section t m) ≡ mid_of m
-unfolding dressed_section
+pub mid_same : (t : Transport) (m : MediaLine) → mid_of (section_with_transport t m) ≡ mid_of m
+unfolding section_with_transport
 mid_same t m = ap (λ (o : Option (List ℕ)). unwrap_or o []) (first_same mid_in no_mid t m.attrs)
 
-pub mids_same : (t : Transport) (ms : List MediaLine) → mids_of (map (dressed_section t) ms) ≡ mids_of ms
+pub mids_same : (t : Transport) (ms : List MediaLine) → mids_of (map (section_with_transport t) ms) ≡ mids_of ms
 mids_same t [] = refl
 mids_same t (m ∷ ms) = λ i. mid_same t m i ∷ mids_same t ms i
 
@@ -113,7 +114,7 @@ no_extension _ h = refl
 
 -- lines of other kinds stay
 pub lines_stay : (t : Transport) (m : MediaLine) → LinesStay t m
-unfolding dressed_section
+unfolding section_with_transport
 lines_stay t m = record {
   lines = λ p silent. kept_same p silent t m.attrs;
   direction = ap (λ (o : Option Direction). unwrap_or o way.Inactive) (first_same direction_in no_direction t m.attrs);

@@ -16,7 +16,7 @@ use Rattle.sdp_formats_values.specs.declared.setup.Setup.TheVariants.{ActPass, A
 use Rattle.rtp_media_browsers.specs.Fit.{may_say}
 use Rattle.rtp_media_browsers.specs.Remotes.{Tells, creds_with, else_of}
 use Rattle.rtp_media_browsers.specs.StandardLaws.{RolesFit, TellsByLevels}
-use Rattle.rtp_media_browsers.specs.declared.plan.Remote.{Remote}
+use Rattle.rtp_media_browsers.specs.declared.state.Remote.{Remote}
 
 else_own : {A : Type 0} (xs ys : List A) → xs ≢ [] → else_of xs ys ≡ xs
 else_own [] ys some = absurd (some refl)

@@ -7,13 +7,13 @@ use Rattle.std.proofs.lemmas.List.Elements.{filter-append}
 use Rattle.sdp_formats_data.specs.declared.session.Session.{Session}
 use Rattle.sdp_formats_data.specs.declared.session.SessionAttribute.{SessionAttribute}
 use Rattle.sdp_formats_data.specs.declared.session.SessionAttribute.TheVariants as session
-use Rattle.rtp_media_browsers.specs.ForBrowsers.{bundled_as, dressed_session, lite_line, mixed_line}
+use Rattle.rtp_media_browsers.specs.ForBrowsers.{bundled_as, session_with_transport, lite_line, mixed_line}
 use Rattle.rtp_media_browsers.specs.ForEnds.{end_session, restricted}
 use Rattle.rtp_media_browsers.specs.Laws.{AreBundlesOf, IsBundleOf, names_only}
 use Rattle.rtp_media_browsers.specs.Lines.{is_bundle_name, is_session_transport}
 use Rattle.rtp_media_browsers.specs.Lines.{stays_in_session}
 use Rattle.rtp_media_browsers.specs.Names.{is_among}
-use Rattle.rtp_media_browsers.proofs.Dressed.{both_of}
+use Rattle.rtp_media_browsers.proofs.WithTransport.{both_of}
 use Rattle.rtp_media_browsers.proofs.Returning.{all_kept}
 
 mixed_goes : (mixed : Bool) → filter stays_in_session (mixed_line mixed) ≡ []
@@ -83,8 +83,8 @@ module _ (names : List (List ℕ)) (s : Session) (stay : list_all stays_in_sessi
       ∙ goes s.attrs (mixed_line mixed) (mixed_goes mixed)
 
   pub session_back : AreBundlesOf names s.attrs → (mixed lite : Bool)
-      → end_session names (dressed_session names mixed lite s) ≡ s
-  unfolding end_session dressed_session
+      → end_session names (session_with_transport names mixed lite s) ≡ s
+  unfolding end_session session_with_transport
   session_back bundles mixed lite =
       let same = all_bundled names s.attrs bundles in
       let attrs = ap (λ (as' : List SessionAttribute). map (restricted names) (filter stays_in_session

@@ -14,10 +14,10 @@ use Rattle.rtp_media_browsers.specs.Places.{place_of, places_from}
 use Rattle.rtp_media_browsers.specs.Asking.{is_for_kind, is_for_mid, kind_from, named_from}
 use Rattle.rtp_media_browsers.specs.Places.{is_place_of}
 use Rattle.rtp_media_browsers.specs.Wanted.{number_from}
-use Rattle.rtp_media_browsers.specs.declared.asking.NamedWish.{NamedWish}
-use Rattle.rtp_media_browsers.specs.declared.plan.Place.{Place}
-use Rattle.rtp_media_browsers.specs.declared.plan.Place.TheVariants.{Free, Kept, Taken}
-use Rattle.rtp_media_browsers.specs.declared.wish.Wish.{Wish}
+use Rattle.rtp_media_browsers.specs.declared.asking.NamedRequest.{NamedRequest}
+use Rattle.rtp_media_browsers.specs.declared.state.Place.{Place}
+use Rattle.rtp_media_browsers.specs.declared.state.Place.TheVariants.{Free, Kept, Taken}
+use Rattle.rtp_media_browsers.specs.declared.request.SectionRequest.{SectionRequest}
 
 one_left : (p : Place) (ps : List Place) (m : MediaLine) (ms : List MediaLine)
     → left (p ∷ ps) (m ∷ ms) ≡ left_at (Some p) m ++ left ps ms
@@ -48,14 +48,15 @@ nothing_left [] = refl
 nothing_left (p ∷ ps) = refl
 
 -- the places of a section and of those after it
-pub places_step : (bundle : List (List ℕ)) (wishes : List Wish) (n : ℕ) (ms : List MediaLine) (m : MediaLine)
+pub places_step : (bundle : List (List ℕ)) (requests : List SectionRequest) (n : ℕ) (ms : List MediaLine)
+    (m : MediaLine)
     → n < length ms → m ≡ get_or ms n m
-    → places_from bundle wishes n (drop n ms)
-    ≡ place_of bundle (slice_get wishes n) m ∷ places_from bundle wishes (n + 1) (drop (n + 1) ms)
-places_step bundle wishes n ms m within is =
-    ap (places_from bundle wishes n)
+    → places_from bundle requests n (drop n ms)
+    ≡ place_of bundle (slice_get requests n) m ∷ places_from bundle requests (n + 1) (drop (n + 1) ms)
+places_step bundle requests n ms m within is =
+    ap (places_from bundle requests n)
     (drop-cons ms n m within ∙ ap (λ (x : MediaLine). x ∷ drop (suc n) ms) (sym is))
-    ∙ (λ i. place_of bundle (slice_get wishes n) m ∷ places_from bundle wishes (sym (add-one n) i)
+    ∙ (λ i. place_of bundle (slice_get requests n) m ∷ places_from bundle requests (sym (add-one n) i)
     (drop (sym (add-one n) i) ms))
 
 one_answered : (p : Place) (ps : List Place) (m : MediaLine) (ms : List MediaLine)
@@ -85,19 +86,20 @@ pub nothing_answered : (ps : List Place) → answered_places ps [] ≡ []
 nothing_answered [] = refl
 nothing_answered (p ∷ ps) = refl
 
--- the first wish that is for a section, from one on
-pub named_step : (mid : List ℕ) (n : ℕ) (ws : List NamedWish) (w : NamedWish) → n < length ws → w ≡ get_or ws n w
+-- the first request that is for a section, from one on
+pub named_step : (mid : List ℕ) (n : ℕ) (ws : List NamedRequest) (w : NamedRequest) → n < length ws → w ≡ get_or ws n w
     → named_from mid n (drop n ws)
     ≡ cond (is_for_mid mid w) (Some n) (named_from mid (n + 1) (drop (n + 1) ws))
 named_step mid n ws w within is =
-    ap (named_from mid n) (drop-cons ws n w within ∙ ap (λ (x : NamedWish). x ∷ drop (suc n) ws) (sym is))
+    ap (named_from mid n) (drop-cons ws n w within ∙ ap (λ (x : NamedRequest). x ∷ drop (suc n) ws) (sym is))
     ∙ (λ i. cond (is_for_mid mid w) (Some n) (named_from mid (sym (add-one n) i) (drop (sym (add-one n) i) ws)))
 
-pub kind_step : (is_audio : Bool) (n : ℕ) (ws : List NamedWish) (w : NamedWish) → n < length ws → w ≡ get_or ws n w
+pub kind_step : (is_audio : Bool) (n : ℕ) (ws : List NamedRequest) (w : NamedRequest) → n < length ws → w
+    ≡ get_or ws n w
     → kind_from is_audio n (drop n ws)
     ≡ cond (is_for_kind is_audio w) (Some n) (kind_from is_audio (n + 1) (drop (n + 1) ws))
 kind_step is_audio n ws w within is =
-    ap (kind_from is_audio n) (drop-cons ws n w within ∙ ap (λ (x : NamedWish). x ∷ drop (suc n) ws) (sym is))
+    ap (kind_from is_audio n) (drop-cons ws n w within ∙ ap (λ (x : NamedRequest). x ∷ drop (suc n) ws) (sym is))
     ∙ (λ i. cond (is_for_kind is_audio w) (Some n)
     (kind_from is_audio (sym (add-one n) i) (drop (sym (add-one n) i) ws)))
 

@@ -7,16 +7,17 @@ use Rattle.sdp_formats_data.specs.declared.media.MediaLine.{MediaLine}
 use Rattle.sdp_formats_data.specs.declared.session.Sdp.{Sdp}
 use Rattle.sdp_formats_data.specs.declared.session.Session.{Session}
 use Rattle.rtp_media_browsers.specs.Following.{is_new}
-use Rattle.rtp_media_browsers.specs.ForBrowsers.{dressed_section, dressed_session, for_browser, is_in_use, shown}
+use Rattle.rtp_media_browsers.specs.ForBrowsers.{section_with_transport, session_with_transport, for_browser, is_in_use}
+use Rattle.rtp_media_browsers.specs.ForBrowsers.{shown}
 use Rattle.rtp_media_browsers.specs.ForBrowsers.{told_section}
 use Rattle.rtp_media_browsers.specs.ForEnds.{bundled, end_section, places_of, with_sections, without}
 use Rattle.rtp_media_browsers.specs.Identities.{ordered}
 use Rattle.rtp_media_browsers.specs.Laws.{AllAccepted, ComesBack, IsEndText, NothingChanges, first, is_end_section}
 use Rattle.rtp_media_browsers.specs.Names.{mids_of}
-use Rattle.rtp_media_browsers.specs.declared.plan.Plan.{Plan}
+use Rattle.rtp_media_browsers.specs.declared.state.BrowserState.{BrowserState}
 use Rattle.rtp_media_browsers.specs.declared.transport.Transport.{Transport}
-use Rattle.rtp_media_browsers.specs.declared.wish.Wish.{Wish}
-use Rattle.rtp_media_browsers.proofs.Dressed.{both_of}
+use Rattle.rtp_media_browsers.specs.declared.request.SectionRequest.{SectionRequest}
+use Rattle.rtp_media_browsers.proofs.WithTransport.{both_of}
 use Rattle.rtp_media_browsers.proofs.Placed.{Accepts, AreUsed, all_left}
 use Rattle.rtp_media_browsers.proofs.Returning.{in_use, media, mids_same, sections_back, sections_same}
 use Rattle.rtp_media_browsers.proofs.SessionBack.{session_back, session_same}
@@ -27,16 +28,16 @@ used (m ∷ ms) h =
     let here = both_of (is_end_section m) (list_all is_end_section ms) h in
     ((media m here.0, in_use m here.0), used ms here.1)
 
-dressed_used : (t : Transport) (ms : List MediaLine) → list_all is_end_section ms ≡ true
-    → AreUsed (map (dressed_section t) ms)
-unfolding dressed_section
-dressed_used t [] h = tt
-dressed_used t (m ∷ ms) h =
+used_with_transport : (t : Transport) (ms : List MediaLine) → list_all is_end_section ms ≡ true
+    → AreUsed (map (section_with_transport t) ms)
+unfolding section_with_transport
+used_with_transport t [] h = tt
+used_with_transport t (m ∷ ms) h =
     let here = both_of (is_end_section m) (list_all is_end_section ms) h in
-    ((media m here.0, in_use m here.0), dressed_used t ms here.1)
+    ((media m here.0, in_use m here.0), used_with_transport t ms here.1)
 
-accepts : (wishes : List Wish) (count : ℕ) → AllAccepted wishes count → Accepts wishes 0 count
-accepts wishes count all k low high = all k (omega arith)
+accepts : (requests : List SectionRequest) (count : ℕ) → AllAccepted requests count → Accepts requests 0 count
+accepts requests count all k low high = all k (omega arith)
 
 -- to an end without sections each one is new
 all_new : (ms : List MediaLine) → filter (is_new []) ms ≡ ms
@@ -44,8 +45,8 @@ all_new [] = refl
 all_new (m ∷ ms) = ap (λ (xs : List MediaLine). m ∷ xs) (all_new ms)
 
 in_use_same : (t : Transport) (ms : List MediaLine) → list_all is_end_section ms ≡ true
-    → filter is_in_use (map (dressed_section t) ms) ≡ map (dressed_section t) ms
-unfolding is_in_use dressed_section
+    → filter is_in_use (map (section_with_transport t) ms) ≡ map (section_with_transport t) ms
+unfolding is_in_use section_with_transport
 in_use_same t [] h = refl
 in_use_same t (m ∷ ms) h =
     let here = both_of (is_end_section m) (list_all is_end_section ms) h in
@@ -53,9 +54,9 @@ in_use_same t (m ∷ ms) h =
 
 pub nothing_changes : NothingChanges
 unfolding with_sections
-nothing_changes wishes sdp is all =
-    let left = all_left (bundled sdp) wishes 0 sdp.media_lines (used sdp.media_lines is.sections)
-    (accepts wishes (length sdp.media_lines) all) in
+nothing_changes requests sdp is all =
+    let left = all_left (bundled sdp) requests 0 sdp.media_lines (used sdp.media_lines is.sections)
+    (accepts requests (length sdp.media_lines) all) in
     let same = ap (map end_section) left ∙ sections_same sdp.media_lines is.sections in
     ap (λ (ms : List MediaLine). with_sections sdp.session (filter (is_new []) ms)) same
     ∙ ap (with_sections sdp.session) (all_new sdp.media_lines)
@@ -64,53 +65,54 @@ nothing_changes wishes sdp is all =
       media_lines = sdp.media_lines;
     })
 
-module _ (plan : Plan) (t : Transport) (sdp : Sdp) (is : IsEndText sdp) where
-  abbrev dressed : List MediaLine
-  dressed = map (dressed_section t) sdp.media_lines
+module _ (state : BrowserState) (t : Transport) (sdp : Sdp) (is : IsEndText sdp) where
+  abbrev with_transport : List MediaLine
+  with_transport = map (section_with_transport t) sdp.media_lines
 
   abbrev own : Session
-  own = dressed_session (mids_of sdp.media_lines) plan.allows_mixed t.is_lite sdp.session
+  own = session_with_transport (mids_of sdp.media_lines) state.allows_mixed t.is_lite sdp.session
 
   ordered_same : (b : Bool) (m : MediaLine) → ordered b [] m ≡ m
   ordered_same true m = refl
   ordered_same false m = refl
 
-  told_same : (ms : List MediaLine) → map (told_section (first plan) t) ms ≡ map (dressed_section t) ms
+  told_same : (ms : List MediaLine) → map (told_section (first state) t) ms ≡ map (section_with_transport t) ms
   told_same [] = refl
-  told_same (m ∷ ms) = λ i. ordered_same plan.is_answering (dressed_section t m) i ∷ told_same ms i
+  told_same (m ∷ ms) = λ i. ordered_same state.is_answering (section_with_transport t m) i ∷ told_same ms i
 
   -- what a browser gets of a first text
-  shown_as : for_browser (first plan) t sdp ≡ record { session = own; media_lines = dressed }
+  shown_as : for_browser (first state) t sdp ≡ record { session = own; media_lines = with_transport }
   unfolding shown
   shown_as =
       let same = in_use_same t sdp.media_lines is.sections in
       let names = ap mids_of same ∙ mids_same t sdp.media_lines in
-      ap (λ (ms : List MediaLine). shown (first plan) t sdp.session (filter (is_new []) ms)) (told_same sdp.media_lines)
-      ∙ ap (shown (first plan) t sdp.session) (all_new dressed)
+      ap (λ (ms : List MediaLine). shown (first state) t sdp.session (filter (is_new []) ms))
+      (told_same sdp.media_lines)
+      ∙ ap (shown (first state) t sdp.session) (all_new with_transport)
       ∙ (λ i. record {
-        session = dressed_session (names i) plan.allows_mixed t.is_lite sdp.session;
-        media_lines = dressed;
+        session = session_with_transport (names i) state.allows_mixed t.is_lite sdp.session;
+        media_lines = with_transport;
       })
 
-  back : (wishes : List Wish) → AllAccepted wishes (length dressed)
-      → without [] (places_of wishes (record { session = own; media_lines = dressed }))
-      (record { session = own; media_lines = dressed }) ≡ sdp
+  back : (requests : List SectionRequest) → AllAccepted requests (length with_transport)
+      → without [] (places_of requests (record { session = own; media_lines = with_transport }))
+      (record { session = own; media_lines = with_transport }) ≡ sdp
   unfolding with_sections
-  back wishes all =
-      let b : Sdp = record { session = own; media_lines = dressed } in
-      let left = all_left (bundled b) wishes 0 dressed (dressed_used t sdp.media_lines is.sections)
-      (accepts wishes (length dressed) all) in
+  back requests all =
+      let b : Sdp = record { session = own; media_lines = with_transport } in
+      let left = all_left (bundled b) requests 0 with_transport (used_with_transport t sdp.media_lines is.sections)
+      (accepts requests (length with_transport) all) in
       let same = ap (map end_section) left ∙ sections_back t sdp.media_lines is.sections in
       ap (λ (ms : List MediaLine). with_sections own (filter (is_new []) ms)) same
       ∙ ap (with_sections own) (all_new sdp.media_lines)
       ∙ (λ i. record {
         session = session_back (mids_of sdp.media_lines) sdp.session is.session is.groups is.bundles
-            plan.allows_mixed t.is_lite i;
+            state.allows_mixed t.is_lite i;
         media_lines = sdp.media_lines;
       })
 
 pub comes_back : ComesBack
-comes_back plan t wishes sdp is all =
-    let same = shown_as plan t sdp is in
-    ap (λ (b : Sdp). without [] (places_of wishes b) b) same
-    ∙ back plan t sdp is wishes (subst (λ (b : Sdp). AllAccepted wishes (length b.media_lines)) same all)
+comes_back state t requests sdp is all =
+    let same = shown_as state t sdp is in
+    ap (λ (b : Sdp). without [] (places_of requests b) b) same
+    ∙ back state t sdp is requests (subst (λ (b : Sdp). AllAccepted requests (length b.media_lines)) same all)

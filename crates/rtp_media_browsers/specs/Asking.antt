@@ -1,4 +1,4 @@
--- Wishes that name their sections.
+-- Requests that name their sections.
 use Rattle.std.specs.Prelude.{◌⊎◌}
 use Rattle.std.specs.Prelude.{◌≡◌, ℕ, suc, Bool, true, false, not, ◌&&◌, ◌||◌, ◌==◌, length, List, [], ◌∷◌}
 use Rattle.std.specs.Prelude.{Option, None, Some, slice_get, if◌then◌else◌}
@@ -18,13 +18,13 @@ use Rattle.sdp_formats_values.specs.MediaTypes.{is_media}
 use Rattle.rtp_media_browsers.specs.ForEnds.{bundled}
 use Rattle.rtp_media_browsers.specs.Places.{is_bundled_only}
 use Rattle.rtp_media_browsers.specs.Reading.{IsUnread, SaysWhole}
-use Rattle.rtp_media_browsers.specs.declared.asking.NamedWish.{NamedWish}
+use Rattle.rtp_media_browsers.specs.declared.asking.NamedRequest.{NamedRequest}
 use Rattle.rtp_media_browsers.specs.declared.asking.Target.{Target}
 use Rattle.rtp_media_browsers.specs.declared.asking.Target.TheVariants as target
-use Rattle.rtp_media_browsers.specs.declared.asking.WishError.{WishError}
-use Rattle.rtp_media_browsers.specs.declared.asking.WishError.TheVariants as error
-use Rattle.rtp_media_browsers.specs.declared.wish.Wish.{Wish}
-use Rattle.rtp_media_browsers.specs.declared.wish.Wish.TheVariants.{Accept, Reject}
+use Rattle.rtp_media_browsers.specs.declared.asking.RequestError.{RequestError}
+use Rattle.rtp_media_browsers.specs.declared.asking.RequestError.TheVariants as error
+use Rattle.rtp_media_browsers.specs.declared.request.SectionRequest.{SectionRequest}
+use Rattle.rtp_media_browsers.specs.declared.request.SectionRequest.TheVariants.{Accept, Reject}
 
 -- Audio or video that is in use (RFC 9143 6).
 abbrev pub is_open : List (List ℕ) → MediaLine → Bool
@@ -39,49 +39,49 @@ names_kind is_audio (target.Mid name) = false
 names_kind is_audio (target.Kind kinds.Audio) = is_audio
 names_kind is_audio (target.Kind kinds.Video) = not is_audio
 
-unfoldable pub is_for_mid : List ℕ → NamedWish → Bool
+unfoldable pub is_for_mid : List ℕ → NamedRequest → Bool
 is_for_mid mid asked = names_mid mid asked.target
 
-unfoldable pub is_for_kind : Bool → NamedWish → Bool
+unfoldable pub is_for_kind : Bool → NamedRequest → Bool
 is_for_kind is_audio asked = names_kind is_audio asked.target
 
--- The first wish that names a section, counted from n on.
-abbrev pub named_from : List ℕ → ℕ → List NamedWish → Option ℕ
+-- The first request that names a section, counted from n on.
+abbrev pub named_from : List ℕ → ℕ → List NamedRequest → Option ℕ
 named_from mid n [] = None
 named_from mid n (w ∷ ws) = if is_for_mid mid w then Some n else named_from mid (suc n) ws
 
--- The first wish for a kind, counted from n on.
-abbrev pub kind_from : Bool → ℕ → List NamedWish → Option ℕ
+-- The first request for a kind, counted from n on.
+abbrev pub kind_from : Bool → ℕ → List NamedRequest → Option ℕ
 kind_from is_audio n [] = None
 kind_from is_audio n (w ∷ ws) = if is_for_kind is_audio w then Some n else kind_from is_audio (suc n) ws
 
-abbrev pub place_asked : List NamedWish → MediaLine → Option ℕ
+abbrev pub place_asked : List NamedRequest → MediaLine → Option ℕ
 place_asked asked m = option_or (named_from (mid_of m) 0 asked) (kind_from (is_audio_kind (kind_of m.typ)) 0 asked)
 
--- The wish that a section takes of those that are left, if it is in use.
-abbrev pub chosen : List (List ℕ) → List NamedWish → MediaLine → Option ℕ
+-- The request that a section takes of those that are left, if it is in use.
+abbrev pub chosen : List (List ℕ) → List NamedRequest → MediaLine → Option ℕ
 chosen bundle asked m = if is_open bundle m then place_asked asked m else None
 
-abbrev pub wish_of : Option NamedWish → Wish
-wish_of None = Reject
-wish_of (Some w) = w.wish
+abbrev pub request_of : Option NamedRequest → SectionRequest
+request_of None = Reject
+request_of (Some w) = w.request
 
-abbrev pub wish_given : List NamedWish → Option ℕ → Wish
-wish_given asked None = Reject
-wish_given asked (Some n) = wish_of (slice_get asked n)
+abbrev pub request_given : List NamedRequest → Option ℕ → SectionRequest
+request_given asked None = Reject
+request_given asked (Some n) = request_of (slice_get asked n)
 
-abbrev pub behind_choice : List NamedWish → Option ℕ → List NamedWish
+abbrev pub behind_choice : List NamedRequest → Option ℕ → List NamedRequest
 behind_choice asked None = asked
 behind_choice asked (Some n) = remove asked n
 
--- The wish for each section, in order.
-abbrev pub given : List (List ℕ) → List NamedWish → List MediaLine → List Wish
+-- The request for each section, in order.
+abbrev pub given : List (List ℕ) → List NamedRequest → List MediaLine → List SectionRequest
 given bundle asked [] = []
 given bundle asked (m ∷ ms) =
-    wish_given asked (chosen bundle asked m) ∷ given bundle (behind_choice asked (chosen bundle asked m)) ms
+    request_given asked (chosen bundle asked m) ∷ given bundle (behind_choice asked (chosen bundle asked m)) ms
 
--- The wishes that no section takes.
-abbrev pub left_over : List (List ℕ) → List NamedWish → List MediaLine → List NamedWish
+-- The requests that no section takes.
+abbrev pub left_over : List (List ℕ) → List NamedRequest → List MediaLine → List NamedRequest
 left_over bundle asked [] = asked
 left_over bundle asked (m ∷ ms) = left_over bundle (behind_choice asked (chosen bundle asked m)) ms
 
@@ -94,42 +94,42 @@ unfoldable pub maps_rtx : MediaAttribute → Bool
 maps_rtx (line.RtpMap pt value) = is_rtx value.codec
 maps_rtx _ = false
 
-abbrev pub has_repairs : Wish → Bool
+abbrev pub has_repairs : SectionRequest → Bool
 has_repairs (Accept direction ssrcs repairs) = not (length repairs.items == 0)
 has_repairs Reject = false
 
--- A wish has repairs, and its section has no payload type for them.
-abbrev pub unrepaired : Wish → MediaLine → Option WishError
+-- A request has repairs, and its section has no payload type for them.
+abbrev pub unrepaired : SectionRequest → MediaLine → Option RequestError
 unrepaired w m =
     if has_repairs w && not (list_any maps_rtx m.attrs) then Some (error.NoRetransmission (mid_of m)) else None
 
-abbrev pub first_unrepaired : List Wish → List MediaLine → Option WishError
+abbrev pub first_unrepaired : List SectionRequest → List MediaLine → Option RequestError
 first_unrepaired [] ms = None
 first_unrepaired (w ∷ ws) [] = None
 first_unrepaired (w ∷ ws) (m ∷ ms) = option_or (unrepaired w m) (first_unrepaired ws ms)
 
--- A wish that no section takes.
-abbrev pub left_refusal : List NamedWish → Option WishError
+-- A request that no section takes.
+abbrev pub left_refusal : List NamedRequest → Option RequestError
 left_refusal [] = None
 left_refusal (w ∷ ws) = Some (error.NoSection w.target)
 
--- Why there are no wishes for an offer.
-abbrev pub wish_refusal : List NamedWish → Sdp → Option WishError
-wish_refusal asked sdp = option_or (left_refusal (left_over (bundled sdp) asked sdp.media_lines))
+-- Why there are no requests for an offer.
+abbrev pub request_refusal : List NamedRequest → Sdp → Option RequestError
+request_refusal asked sdp = option_or (left_refusal (left_over (bundled sdp) asked sdp.media_lines))
     (first_unrepaired (given (bundled sdp) asked sdp.media_lines) sdp.media_lines)
 
--- The wishes for the sections of an offer.
-pub record AreWishes (text : List ℕ) (asked : List NamedWish) (wishes : List Wish) : Type 0 where
+-- The requests for the sections of an offer.
+pub record AreRequests (text : List ℕ) (asked : List NamedRequest) (requests : List SectionRequest) : Type 0 where
   pub sdp : Sdp
   pub says : SaysWhole text sdp
-  pub passes : wish_refusal asked sdp ≡ None
-  pub given_are : wishes ≡ given (bundled sdp) asked sdp.media_lines
+  pub passes : request_refusal asked sdp ≡ None
+  pub given_are : requests ≡ given (bundled sdp) asked sdp.media_lines
 
-abbrev pub IsUnreadOffer : List ℕ → WishError → Type 0
+abbrev pub IsUnreadOffer : List ℕ → RequestError → Type 0
 IsUnreadOffer text (error.Text b) = IsUnread text b
 IsUnreadOffer text _ = ⊥
 
--- Why there are none: the offer can't be read, or the wishes don't fit it.
-abbrev pub IsRefusedWish : List ℕ → List NamedWish → WishError → Type 0
-IsRefusedWish text asked e =
-    IsUnreadOffer text e ⊎ ((sdp : Sdp) × (SaysWhole text sdp × (wish_refusal asked sdp ≡ Some e)))
+-- Why there are none: the offer can't be read, or the requests don't fit it.
+abbrev pub IsRefusedRequest : List ℕ → List NamedRequest → RequestError → Type 0
+IsRefusedRequest text asked e =
+    IsUnreadOffer text e ⊎ ((sdp : Sdp) × (SaysWhole text sdp × (request_refusal asked sdp ≡ Some e)))

@@ -13,7 +13,7 @@ use Rattle.rtp_media_browsers.specs.Identities.{identified, ordered}
 use Rattle.rtp_media_browsers.specs.Lines.{is_bundle_name, mixed_words}
 use Rattle.rtp_media_browsers.specs.Names.{mids_of}
 use Rattle.rtp_media_browsers.specs.Places.{placed}
-use Rattle.rtp_media_browsers.specs.declared.plan.Plan.{Plan}
+use Rattle.rtp_media_browsers.specs.declared.state.BrowserState.{BrowserState}
 use Rattle.rtp_media_browsers.specs.declared.transport.Gathering.{Gathering}
 use Rattle.rtp_media_browsers.specs.declared.transport.Gathering.TheVariants.{Trickling, Done}
 use Rattle.rtp_media_browsers.specs.declared.transport.Transport.{Transport}
@@ -28,11 +28,11 @@ transport_lines t = line.IceUfrag t.creds.ufrag ∷ line.IcePwd t.creds.pass ∷
     ++ line.Fingerprint t.fingerprint ∷ line.Setup t.setup ∷ line.RtcpMux ∷ [])
 
 -- An attribute; `a=mid` is followed by the transport's lines.
-unfoldable pub dressed_attribute : Transport → MediaAttribute → List MediaAttribute
-dressed_attribute t attribute = attribute ∷ (if is_mid attribute then transport_lines t else [])
+unfoldable pub attribute_with_transport : Transport → MediaAttribute → List MediaAttribute
+attribute_with_transport t attribute = attribute ∷ (if is_mid attribute then transport_lines t else [])
 
-unfoldable pub dressed_section : Transport → MediaLine → MediaLine
-dressed_section t m = record m { attrs = flat_map (dressed_attribute t) m.attrs }
+unfoldable pub section_with_transport : Transport → MediaLine → MediaLine
+section_with_transport t m = record m { attrs = flat_map (attribute_with_transport t) m.attrs }
 
 -- Lines added to the session: `a=extmap-allow-mixed`, and `a=ice-lite`.
 abbrev pub mixed_line : Bool → List SessionAttribute
@@ -47,8 +47,8 @@ bundled_as names (session.Group typ mids) = session.Group typ (if is_bundle_name
 bundled_as names attribute = attribute
 
 -- The session, with the sections that are in use in its bundle.
-unfoldable pub dressed_session : List (List ℕ) → Bool → Bool → Session → Session
-dressed_session names mixed lite s =
+unfoldable pub session_with_transport : List (List ℕ) → Bool → Bool → Session → Session
+session_with_transport names mixed lite s =
     record s { attrs = map (bundled_as names) s.attrs ++ mixed_line mixed ++ lite_line lite }
 
 unfoldable pub is_in_use : MediaLine → Bool
@@ -58,17 +58,18 @@ abbrev pub names_in_use : List MediaLine → List (List ℕ)
 names_in_use ms = mids_of (filter is_in_use ms)
 
 -- A session text with these sections.
-unfoldable pub shown : Plan → Transport → Session → List MediaLine → Sdp
-shown plan t s ms = record {
-  session = dressed_session (names_in_use ms) plan.allows_mixed t.is_lite s;
+unfoldable pub shown : BrowserState → Transport → Session → List MediaLine → Sdp
+shown state t s ms = record {
+  session = session_with_transport (names_in_use ms) state.allows_mixed t.is_lite s;
   media_lines = ms;
 }
 
 -- An end's text with the transport's lines added to its sections, and the removed sections put back in their places.
 -- A section of an end as its browser is told of it.
-abbrev pub told_section : Plan → Transport → MediaLine → MediaLine
-told_section plan t m = identified plan.identity (ordered plan.is_answering plan.sections (dressed_section t m))
+abbrev pub told_section : BrowserState → Transport → MediaLine → MediaLine
+told_section state t m = identified state.identity (ordered state.is_answering state.sections
+    (section_with_transport t m))
 
-abbrev pub for_browser : Plan → Transport → Sdp → Sdp
-for_browser plan t sdp =
-    shown plan t sdp.session (placed plan.places plan.sections (map (told_section plan t) sdp.media_lines))
+abbrev pub for_browser : BrowserState → Transport → Sdp → Sdp
+for_browser state t sdp =
+    shown state t sdp.session (placed state.places state.sections (map (told_section state t) sdp.media_lines))

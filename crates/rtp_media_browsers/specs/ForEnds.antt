@@ -15,9 +15,9 @@ use Rattle.rtp_media_browsers.specs.Lines.{allows_mixed, bundle_in, is_bundle_na
 use Rattle.rtp_media_browsers.specs.Names.{is_among, mids_of}
 use Rattle.rtp_media_browsers.specs.Places.{answered_places, left, places_from}
 use Rattle.rtp_media_browsers.specs.Remotes.{TellsFirst}
-use Rattle.rtp_media_browsers.specs.declared.plan.Place.{Place}
-use Rattle.rtp_media_browsers.specs.declared.plan.Plan.{Plan}
-use Rattle.rtp_media_browsers.specs.declared.wish.Wish.{Wish}
+use Rattle.rtp_media_browsers.specs.declared.state.Place.{Place}
+use Rattle.rtp_media_browsers.specs.declared.state.BrowserState.{BrowserState}
+use Rattle.rtp_media_browsers.specs.declared.request.SectionRequest.{SectionRequest}
 
 -- A section as an end reads it: a nonzero port, no transport lines.
 unfoldable pub end_section : MediaLine → MediaLine
@@ -47,26 +47,27 @@ abbrev pub bundled : Sdp → List (List ℕ)
 bundled sdp = unwrap_or (first_of bundle_in sdp.session.attrs) []
 
 -- What happens to each section of an offer.
-abbrev pub places_of : List Wish → Sdp → List Place
-places_of wishes sdp = places_from (bundled sdp) wishes 0 sdp.media_lines
+abbrev pub places_of : List SectionRequest → Sdp → List Place
+places_of requests sdp = places_from (bundled sdp) requests 0 sdp.media_lines
 
 -- What is remembered of an offer.
-pub record IsPlanned (before : Plan) (wishes : List Wish) (sdp : Sdp) (after : Plan) : Type 0 where
-  pub places : after.places ≡ places_of wishes sdp
-  pub sections : after.sections ≡ (without before.sections (places_of wishes sdp) sdp).media_lines
+pub record IsPlanned (before : BrowserState) (requests : List SectionRequest) (sdp : Sdp)
+    (after : BrowserState) : Type 0 where
+  pub places : after.places ≡ places_of requests sdp
+  pub sections : after.sections ≡ (without before.sections (places_of requests sdp) sdp).media_lines
   pub mixed : after.allows_mixed ≡ list_any allows_mixed sdp.session.attrs
-  pub remote : TellsFirst sdp.session (left (places_of wishes sdp) sdp.media_lines) after.remote
+  pub remote : TellsFirst sdp.session (left (places_of requests sdp) sdp.media_lines) after.remote
   pub setup : after.setup ≡ before.setup
   pub answering : after.is_answering ≡ true
   pub identity : after.identity ≡ before.identity
   pub said : after.said ≡ before.said
 
 -- The places after the browser's answer.
-abbrev pub places_behind : Plan → Sdp → List Place
-places_behind plan sdp = answered_places plan.places sdp.media_lines
+abbrev pub places_behind : BrowserState → Sdp → List Place
+places_behind state sdp = answered_places state.places sdp.media_lines
 
--- The plan after an answer: the DTLS role is the one the answer leaves, if none was settled before.
-pub record IsAnswered (before : Plan) (sdp : Sdp) (after : Plan) : Type 0 where
+-- The state after an answer: the DTLS role is the one the answer leaves, if none was settled before.
+pub record IsAnswered (before : BrowserState) (sdp : Sdp) (after : BrowserState) : Type 0 where
   pub places : after.places ≡ places_behind before sdp
   pub sections : after.sections ≡ (without before.sections (places_behind before sdp) sdp).media_lines
   pub mixed : after.allows_mixed ≡ before.allows_mixed

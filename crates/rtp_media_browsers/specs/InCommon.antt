@@ -19,11 +19,11 @@ use Rattle.rtp_media_browsers.specs.Calls.{OfferPasses, RefusesOffer}
 use Rattle.rtp_media_browsers.specs.Names.{is_among}
 use Rattle.rtp_media_browsers.specs.Wanted.{number_from}
 use Rattle.rtp_media_browsers.specs.declared.error.BrowserError.{BrowserError}
-use Rattle.rtp_media_browsers.specs.declared.plan.Place.{Place}
-use Rattle.rtp_media_browsers.specs.declared.plan.Place.TheVariants.{Kept}
-use Rattle.rtp_media_browsers.specs.declared.plan.Plan.{Plan}
-use Rattle.rtp_media_browsers.specs.declared.wish.Wish.{Wish}
-use Rattle.rtp_media_browsers.specs.declared.wish.Wish.TheVariants.{Reject}
+use Rattle.rtp_media_browsers.specs.declared.state.Place.{Place}
+use Rattle.rtp_media_browsers.specs.declared.state.Place.TheVariants.{Kept}
+use Rattle.rtp_media_browsers.specs.declared.state.BrowserState.{BrowserState}
+use Rattle.rtp_media_browsers.specs.declared.request.SectionRequest.{SectionRequest}
+use Rattle.rtp_media_browsers.specs.declared.request.SectionRequest.TheVariants.{Reject}
 
 -- Whether the answer lists a row for an offered one.
 unfoldable pub is_answered : List Row → Bool → Row → Bool
@@ -43,12 +43,12 @@ names_without rows sections = names_none (rounds (map remote_of sections) rows) 
 abbrev pub SaysToEnd : List ℕ → List Section → Type 0
 SaysToEnd text sections = SaysSections text sections ⊎ (SaysNothing text × (sections ≡ []))
 
--- What an end with these rows is handed of an offer by these wishes, the plan afterwards, and the names of the sections
--- that have no row in common with it.
-pub record Lacks (offer : List ℕ) (rows : List Row) (wishes : List Wish) (plan planned : Plan)
+-- What an end with these rows is handed of an offer by these requests, the state afterwards, and the names of the
+-- sections that have no row in common with it.
+pub record Lacks (offer : List ℕ) (rows : List Row) (requests : List SectionRequest) (state planned : BrowserState)
     (names : List (List ℕ)) : Type 0 where
   pub handed : List ℕ
-  pub passes : OfferPasses offer wishes plan planned handed
+  pub passes : OfferPasses offer requests state planned handed
   pub sections : List Section
   pub says : SaysToEnd handed sections
   pub named : names ≡ names_without rows sections
@@ -66,64 +66,70 @@ abbrev pub after_first : List Place → List Place
 after_first [] = []
 after_first (p ∷ ps) = ps
 
--- The wish for a place, which is rejected if it is that of one of these names.
-abbrev pub left_of : Bool → Wish → Wish
-left_of is_rejected wish = if is_rejected then Reject else wish
+-- The request for a place, which is rejected if it is that of one of these names.
+abbrev pub left_of : Bool → SectionRequest → SectionRequest
+left_of is_rejected request = if is_rejected then Reject else request
 
--- The wishes, place by place.
-abbrev pub without_named : List (List ℕ) → List Place → List Wish → List Wish
+-- The requests, place by place.
+abbrev pub without_named : List (List ℕ) → List Place → List SectionRequest → List SectionRequest
 without_named names ps [] = []
 without_named names ps (w ∷ ws) = left_of (begins_with_named names ps) w ∷ without_named names (after_first ps) ws
 
--- Sections without a row in common have a place, and their wishes are rejected.
-pub record Rejects (offer : List ℕ) (plan : Plan) (rows : List Row) (before after : List Wish) : Type 0 where
-  pub planned : Plan
+-- Sections without a row in common have a place, and their requests are rejected.
+pub record Rejects (offer : List ℕ) (state : BrowserState) (rows : List Row)
+    (before after : List SectionRequest) : Type 0 where
+  pub planned : BrowserState
   pub names : List (List ℕ)
-  pub lacks : Lacks offer rows before plan planned names
+  pub lacks : Lacks offer rows before state planned names
   pub some : list_any (has_named names) planned.places ≡ true
   pub rejected : after ≡ without_named names planned.places before
 
 -- The same so many times, since the rounds then go without what was rejected.
-abbrev pub RejectsInTurn : List ℕ → Plan → List Row → ℕ → List Wish → List Wish → Type 0
-RejectsInTurn offer plan rows zero before after = before ≡ after
-RejectsInTurn offer plan rows (suc n) before after =
-    (between : List Wish) × RejectsInTurn offer plan rows n before between × Rejects offer plan rows between after
+abbrev pub RejectsInTurn : List ℕ → BrowserState → List Row → ℕ → List SectionRequest → List SectionRequest → Type 0
+RejectsInTurn offer state rows zero before after = before ≡ after
+RejectsInTurn offer state rows (suc n) before after =
+    (between : List SectionRequest) × RejectsInTurn offer state rows n before between
+    × Rejects offer state rows between after
 
 -- No section that has a place is without a row in common.
-pub record HasRows (offer : List ℕ) (plan : Plan) (rows : List Row) (wishes : List Wish) : Type 0 where
-  pub planned : Plan
+pub record HasRows (offer : List ℕ) (state : BrowserState) (rows : List Row)
+    (requests : List SectionRequest) : Type 0 where
+  pub planned : BrowserState
   pub names : List (List ℕ)
-  pub lacks : Lacks offer rows wishes plan planned names
+  pub lacks : Lacks offer rows requests state planned names
   pub none : list_any (has_named names) planned.places ≡ false
 
--- The wishes, with those rejected whose sections have no row in common.
-pub record AreInCommon (offer : List ℕ) (plan : Plan) (rows : List Row) (before after : List Wish) : Type 0 where
+-- The requests, with those rejected whose sections have no row in common.
+pub record AreInCommon (offer : List ℕ) (state : BrowserState) (rows : List Row)
+    (before after : List SectionRequest) : Type 0 where
   pub times : ℕ
-  pub rejects : RejectsInTurn offer plan rows times before after
-  pub left : HasRows offer plan rows after
+  pub rejects : RejectsInTurn offer state rows times before after
+  pub left : HasRows offer state rows after
 
--- Why there are none: the offer is refused, as it is wished for or with the sections rejected that have no row in
+-- Why there are none: the offer is refused, as it is requested for or with the sections rejected that have no row in
 -- common.
-pub record RefusesInCommon (offer : List ℕ) (plan : Plan) (rows : List Row) (wishes : List Wish) (e : BrowserError)
+pub record RefusesInCommon (offer : List ℕ) (state : BrowserState) (rows : List Row) (requests : List SectionRequest)
+    (e : BrowserError)
     : Type 0 where
   pub times : ℕ
-  pub left : List Wish
-  pub rejects : RejectsInTurn offer plan rows times wishes left
-  pub refused : RefusesOffer offer plan left e
+  pub left : List SectionRequest
+  pub rejects : RejectsInTurn offer state rows times requests left
+  pub refused : RefusesOffer offer state left e
 
--- All other wishes stay, in their places.
-pub record OthersStay (before after : List Wish) : Type 0 where
+-- All other requests stay, in their places.
+pub record OthersStay (before after : List SectionRequest) : Type 0 where
   pub length : length after ≡ length before
-  pub wishes : (n : ℕ) → (slice_get after n ≡ slice_get before n) ⊎ (slice_get after n ≡ Some Reject)
+  pub requests : (n : ℕ) → (slice_get after n ≡ slice_get before n) ⊎ (slice_get after n ≡ Some Reject)
 
 abbrev pub OnlyRejects : Type 0
-OnlyRejects = (offer : List ℕ) (plan : Plan) (rows : List Row) (times : ℕ) (before after : List Wish)
-    → RejectsInTurn offer plan rows times before after → OthersStay before after
+OnlyRejects = (offer : List ℕ) (state : BrowserState) (rows : List Row) (times : ℕ) (before after : List SectionRequest)
+    → RejectsInTurn offer state rows times before after → OthersStay before after
 
 -- An end with these rows then refuses what it is handed for want of a row in common only if that is a section without a
 -- place in the browser's texts: one that was stopped.
 abbrev pub AnswersInCommon : Type 0
-AnswersInCommon = (offer : List ℕ) (plan planned : Plan) (wishes : List Wish) (handed : List ℕ) (x : Exchanged)
-    (wanted : List Wanted) (mid : List ℕ) → HasRows offer plan x.config.rows wishes
-    → OfferPasses offer wishes plan planned handed → RefusesAnswer x handed wanted (refusal.NoCommonRow mid)
+AnswersInCommon = (offer : List ℕ) (state planned : BrowserState) (requests : List SectionRequest) (handed : List ℕ)
+    (x : Exchanged)
+    (wanted : List Wanted) (mid : List ℕ) → HasRows offer state x.config.rows requests
+    → OfferPasses offer requests state planned handed → RefusesAnswer x handed wanted (refusal.NoCommonRow mid)
     → number_from mid 0 planned.places ≡ None

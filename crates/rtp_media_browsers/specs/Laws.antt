@@ -14,7 +14,7 @@ use Rattle.sdp_formats_data.specs.declared.session.Sdp.{Sdp}
 use Rattle.sdp_formats_data.specs.declared.session.SessionAttribute.{SessionAttribute}
 use Rattle.sdp_formats_data.specs.declared.session.SessionAttribute.TheVariants.{Group}
 use Rattle.sdp_formats_data.specs.Sections.{extmap_in}
-use Rattle.rtp_media_browsers.specs.ForBrowsers.{dressed_section, for_browser}
+use Rattle.rtp_media_browsers.specs.ForBrowsers.{section_with_transport, for_browser}
 use Rattle.rtp_media_browsers.specs.Following.{following, halted, is_new, section_named}
 use Rattle.rtp_media_browsers.specs.ForEnds.{end_section, places_of, without}
 use Rattle.rtp_media_browsers.specs.Lines.{is_bundle_name, is_transport, stays_in_session}
@@ -22,11 +22,11 @@ use Rattle.rtp_media_browsers.specs.Names.{is_among, mids_of}
 use Rattle.rtp_media_browsers.specs.Places.{is_accepted, placed, rejected}
 use Rattle.rtp_media_browsers.specs.Refusals.{begin_with, is_found}
 use Rattle.rtp_media_browsers.specs.Wanted.{wanted_of}
-use Rattle.rtp_media_browsers.specs.declared.plan.Place.{Place}
-use Rattle.rtp_media_browsers.specs.declared.plan.Place.TheVariants.{Free, Kept, Taken}
-use Rattle.rtp_media_browsers.specs.declared.plan.Plan.{Plan}
+use Rattle.rtp_media_browsers.specs.declared.state.Place.{Place}
+use Rattle.rtp_media_browsers.specs.declared.state.Place.TheVariants.{Free, Kept, Taken}
+use Rattle.rtp_media_browsers.specs.declared.state.BrowserState.{BrowserState}
 use Rattle.rtp_media_browsers.specs.declared.transport.Transport.{Transport}
-use Rattle.rtp_media_browsers.specs.declared.wish.Wish.{Wish}
+use Rattle.rtp_media_browsers.specs.declared.request.SectionRequest.{SectionRequest}
 
 abbrev pub has_no_transport : List MediaAttribute → Bool
 has_no_transport attributes = list_all (λ a. not (is_transport a)) attributes
@@ -57,8 +57,8 @@ pub record IsEndText (sdp : Sdp) : Type 0 where
   pub bundles : AreBundlesOf (mids_of sdp.media_lines) sdp.session.attrs
 
 -- Each of the first `count` sections is accepted.
-abbrev pub AllAccepted : List Wish → ℕ → Type 0
-AllAccepted wishes count = (n : ℕ) → n < count → IsTrue (is_accepted (slice_get wishes n))
+abbrev pub AllAccepted : List SectionRequest → ℕ → Type 0
+AllAccepted requests count = (n : ℕ) → n < count → IsTrue (is_accepted (slice_get requests n))
 
 -- Every removed section is rejected.
 abbrev pub AreRejections : List Place → Type 0
@@ -69,22 +69,24 @@ AreRejections (Free r ∷ ps) = ((m : MediaLine) × (r ≡ rejected m)) × AreRe
 
 -- If nothing needs to be removed, a first text is unchanged for an end.
 abbrev pub NothingChanges : Type 0
-NothingChanges = (wishes : List Wish) (sdp : Sdp) → IsEndText sdp → AllAccepted wishes (length sdp.media_lines)
-    → without [] (places_of wishes sdp) sdp ≡ sdp
+NothingChanges = (requests : List SectionRequest) (sdp : Sdp) → IsEndText sdp
+    → AllAccepted requests (length sdp.media_lines)
+    → without [] (places_of requests sdp) sdp ≡ sdp
 
--- A plan of an end that has no section yet, and of which a browser is told nothing else.
-abbrev pub first : Plan → Plan
-first plan = record plan { places = []; sections = []; identity = None }
+-- A state of an end that has no section yet, and of which a browser is told nothing else.
+abbrev pub first : BrowserState → BrowserState
+first state = record state { places = []; sections = []; identity = None }
 
 -- A first text made for a browser, stripped again for an end, is the original text.
 abbrev pub ComesBack : Type 0
-ComesBack = (plan : Plan) (t : Transport) (wishes : List Wish) (sdp : Sdp) → IsEndText sdp
-    → AllAccepted wishes (length (for_browser (first plan) t sdp).media_lines)
-    → without [] (places_of wishes (for_browser (first plan) t sdp)) (for_browser (first plan) t sdp) ≡ sdp
+ComesBack = (state : BrowserState) (t : Transport) (requests : List SectionRequest) (sdp : Sdp) → IsEndText sdp
+    → AllAccepted requests (length (for_browser (first state) t sdp).media_lines)
+    → without [] (places_of requests (for_browser (first state) t sdp)) (for_browser (first state) t sdp) ≡ sdp
 
 -- So is each section of any text.
 abbrev pub SectionsComeBack : Type 0
-SectionsComeBack = (t : Transport) (m : MediaLine) → IsTrue (is_end_section m) → end_section (dressed_section t m) ≡ m
+SectionsComeBack = (t : Transport) (m : MediaLine) → IsTrue (is_end_section m)
+    → end_section (section_with_transport t m) ≡ m
 
 -- How many places are free.
 abbrev pub free_in : List Place → ℕ
@@ -118,10 +120,10 @@ pub record GoesOn (olds ms : List MediaLine) : Type 0 where
       → slice_get (following olds ms) n ≡ Some (halted old)
 
 -- The sections to answer with have the names and kinds of those that the end is handed, in their order.
-pub record AreWanted (plan : Plan) (wishes : List Wish) : Type 0 where
-  pub names : map (λ (w : Wanted). w.mid) (wanted_of plan wishes) ≡ mids_of plan.sections
-  pub kinds : map (λ (w : Wanted). w.kind) (wanted_of plan wishes) ≡ map (λ (m : MediaLine). kind_of m.typ)
-      plan.sections
+pub record AreWanted (state : BrowserState) (requests : List SectionRequest) : Type 0 where
+  pub names : map (λ (w : Wanted). w.mid) (wanted_of state requests) ≡ mids_of state.sections
+  pub kinds : map (λ (w : Wanted). w.kind) (wanted_of state requests) ≡ map (λ (m : MediaLine). kind_of m.typ)
+      state.sections
 
 -- A section that is stopped keeps its name, its kind and its payload types, and no media flows.
 pub record IsHalted (m : MediaLine) : Type 0 where
@@ -135,13 +137,13 @@ pub record IsHalted (m : MediaLine) : Type 0 where
 -- mid, kind and payload types.
 pub record LinesStay (t : Transport) (m : MediaLine) : Type 0 where
   pub lines : (p : MediaAttribute → Bool) → ((a : MediaAttribute) → IsTrue (is_transport a) → p a ≡ false)
-      → filter p (dressed_section t m).attrs ≡ filter p m.attrs
-  pub direction : direction_of (dressed_section t m).attrs ≡ direction_of m.attrs
-  pub extensions : flat_map extmap_in (dressed_section t m).attrs ≡ flat_map extmap_in m.attrs
-  pub name : mid_of (dressed_section t m) ≡ mid_of m
-  pub types : (dressed_section t m).pts ≡ m.pts
-  pub kind : (dressed_section t m).typ ≡ m.typ
+      → filter p (section_with_transport t m).attrs ≡ filter p m.attrs
+  pub direction : direction_of (section_with_transport t m).attrs ≡ direction_of m.attrs
+  pub extensions : flat_map extmap_in (section_with_transport t m).attrs ≡ flat_map extmap_in m.attrs
+  pub name : mid_of (section_with_transport t m) ≡ mid_of m
+  pub types : (section_with_transport t m).pts ≡ m.pts
+  pub kind : (section_with_transport t m).typ ≡ m.typ
 
 -- Only rejected sections are removed from an offer.
 abbrev pub TakenAreRejected : Type 0
-TakenAreRejected = (wishes : List Wish) (sdp : Sdp) → AreRejections (places_of wishes sdp)
+TakenAreRejected = (requests : List SectionRequest) (sdp : Sdp) → AreRejections (places_of requests sdp)

@@ -13,12 +13,12 @@ use Rattle.sdp_formats_data.specs.declared.media.MediaLine.{MediaLine}
 use Rattle.rtp_media_browsers.specs.Following.{has_name, is_new, section_named}
 use Rattle.rtp_media_browsers.specs.Lines.{is_bundle_only}
 use Rattle.rtp_media_browsers.specs.Names.{is_among}
-use Rattle.rtp_media_browsers.specs.declared.plan.Place.{Place}
-use Rattle.rtp_media_browsers.specs.declared.plan.Place.TheVariants.{Free, Kept, Taken}
-use Rattle.rtp_media_browsers.specs.declared.wish.Wish.{Wish}
-use Rattle.rtp_media_browsers.specs.declared.wish.Wish.TheVariants.{Accept}
+use Rattle.rtp_media_browsers.specs.declared.state.Place.{Place}
+use Rattle.rtp_media_browsers.specs.declared.state.Place.TheVariants.{Free, Kept, Taken}
+use Rattle.rtp_media_browsers.specs.declared.request.SectionRequest.{SectionRequest}
+use Rattle.rtp_media_browsers.specs.declared.request.SectionRequest.TheVariants.{Accept}
 
-abbrev pub is_accepted : Option Wish → Bool
+abbrev pub is_accepted : Option SectionRequest → Bool
 is_accepted (Some (Accept direction ssrcs repairs)) = true
 is_accepted _ = false
 
@@ -27,11 +27,11 @@ is_accepted _ = false
 abbrev pub is_bundled_only : List (List ℕ) → MediaLine → Bool
 is_bundled_only bundle m = list_any is_bundle_only m.attrs && is_among bundle (mid_of m)
 
--- Whether a section of an offer is removed: it is neither audio nor video, or port 0 rejects it, or the wish rejects
+-- Whether a section of an offer is removed: it is neither audio nor video, or port 0 rejects it, or the request rejects
 -- it.
-abbrev pub is_taken : List (List ℕ) → Option Wish → MediaLine → Bool
-is_taken bundle wish m =
-    not (is_media m.typ) || ((m.disabled && not (is_bundled_only bundle m)) || not (is_accepted wish))
+abbrev pub is_taken : List (List ℕ) → Option SectionRequest → MediaLine → Bool
+is_taken bundle request m =
+    not (is_media m.typ) || ((m.disabled && not (is_bundled_only bundle m)) || not (is_accepted request))
 
 unfoldable pub is_map : MediaAttribute → Bool
 is_map (line.RtpMap pt value) = true
@@ -50,14 +50,14 @@ rejected m = record m {
   attrs = line.Mid (mid_of m) ∷ rejected_media m;
 }
 
-abbrev pub place_of : List (List ℕ) → Option Wish → MediaLine → Place
-place_of bundle wish m = if is_taken bundle wish m then Taken (rejected m) else Kept (mid_of m)
+abbrev pub place_of : List (List ℕ) → Option SectionRequest → MediaLine → Place
+place_of bundle request m = if is_taken bundle request m then Taken (rejected m) else Kept (mid_of m)
 
 -- What happens to each section of an offer, from the n-th on.
-abbrev pub places_from : List (List ℕ) → List Wish → ℕ → List MediaLine → List Place
-places_from bundle wishes n [] = []
-places_from bundle wishes n (m ∷ ms) =
-    place_of bundle (slice_get wishes n) m ∷ places_from bundle wishes (suc n) ms
+abbrev pub places_from : List (List ℕ) → List SectionRequest → ℕ → List MediaLine → List Place
+places_from bundle requests n [] = []
+places_from bundle requests n (m ∷ ms) =
+    place_of bundle (slice_get requests n) m ∷ places_from bundle requests (suc n) ms
 
 -- The section, unless it is removed.
 abbrev pub left_at : Option Place → MediaLine → List MediaLine
@@ -65,7 +65,7 @@ left_at (Some (Taken r)) m = []
 left_at (Some (Free r)) m = []
 left_at _ m = m ∷ []
 
--- The sections that aren't removed; sections beyond the plan are kept.
+-- The sections that aren't removed; sections beyond the state are kept.
 abbrev pub left : List Place → List MediaLine → List MediaLine
 left [] ms = ms
 left (p ∷ ps) [] = []
@@ -81,7 +81,7 @@ answered_place (Kept name) m = if m.disabled then Free (rejected m) else Kept na
 answered_place (Taken r) m = if m.disabled then Free r else Taken r
 answered_place (Free r) m = if m.disabled && has_name (mid_of r) m then Free r else Kept (mid_of m)
 
--- The same if the plan has a place, and of a section that the end's offer added.
+-- The same if the state has a place, and of a section that the end's offer added.
 abbrev pub answered_or_new : Option Place → MediaLine → Place
 answered_or_new (Some p) m = answered_place p m
 answered_or_new None m = Kept (mid_of m)

@@ -17,11 +17,11 @@ use Rattle.rtp_media_browsers.specs.Names.{changed_name, is_among, mids_of}
 use Rattle.rtp_media_browsers.specs.Places.{left}
 use Rattle.rtp_media_browsers.specs.declared.error.BrowserError.{BrowserError}
 use Rattle.rtp_media_browsers.specs.declared.error.BrowserError.TheVariants as error
-use Rattle.rtp_media_browsers.specs.declared.plan.Place.{Place}
-use Rattle.rtp_media_browsers.specs.declared.plan.Place.TheVariants.{Free, Kept, Taken}
-use Rattle.rtp_media_browsers.specs.declared.plan.Plan.{Plan}
+use Rattle.rtp_media_browsers.specs.declared.state.Place.{Place}
+use Rattle.rtp_media_browsers.specs.declared.state.Place.TheVariants.{Free, Kept, Taken}
+use Rattle.rtp_media_browsers.specs.declared.state.BrowserState.{BrowserState}
 use Rattle.rtp_media_browsers.specs.declared.transport.Transport.{Transport}
-use Rattle.rtp_media_browsers.specs.declared.wish.Wish.{Wish}
+use Rattle.rtp_media_browsers.specs.declared.request.SectionRequest.{SectionRequest}
 
 -- A check passes if and only if there is no refusal; otherwise it returns the refusal.
 abbrev pub Checks : {A : Type 0} → Option BrowserError → Result A BrowserError → Type 0
@@ -66,8 +66,9 @@ bundle_refusal olds sdp ms =
 abbrev pub offer_test : List ℕ → List MediaLine → Sdp → List MediaLine → Option BrowserError
 offer_test text olds sdp ms = option_or (name_refusal text sdp.media_lines) (bundle_refusal olds sdp ms)
 
-abbrev pub offer_refusal : List ℕ → Plan → List Wish → Sdp → Option BrowserError
-offer_refusal text plan wishes sdp = offer_test text plan.sections sdp (left (places_of wishes sdp) sdp.media_lines)
+abbrev pub offer_refusal : List ℕ → BrowserState → List SectionRequest → Sdp → Option BrowserError
+offer_refusal text state requests sdp = offer_test text state.sections sdp
+    (left (places_of requests sdp) sdp.media_lines)
 
 -- Whether a section may be at this place of an answer: under its name, or under any at a free one, which the offer may
 -- have used again.
@@ -92,26 +93,26 @@ abbrev pub rejected_in : MediaLine → Option BrowserError
 rejected_in m = refused_if m.disabled (error.Rejected (mid_of m))
 
 -- Why an answer isn't accepted, given its remaining sections.
-abbrev pub answer_test : List ℕ → Plan → Sdp → List MediaLine → Option BrowserError
-answer_test text plan sdp ms = option_or (name_refusal text sdp.media_lines)
-    (option_or (refused_if (not (are_at plan.places sdp.media_lines)) error.NotCorresponding)
-    (option_or (first_of rejected_in ms) (bundle_refusal plan.sections sdp ms)))
+abbrev pub answer_test : List ℕ → BrowserState → Sdp → List MediaLine → Option BrowserError
+answer_test text state sdp ms = option_or (name_refusal text sdp.media_lines)
+    (option_or (refused_if (not (are_at state.places sdp.media_lines)) error.NotCorresponding)
+    (option_or (first_of rejected_in ms) (bundle_refusal state.sections sdp ms)))
 
-abbrev pub answer_refusal : List ℕ → Plan → Sdp → Option BrowserError
-answer_refusal text plan sdp = answer_test text plan sdp (left (places_behind plan sdp) sdp.media_lines)
+abbrev pub answer_refusal : List ℕ → BrowserState → Sdp → Option BrowserError
+answer_refusal text state sdp = answer_test text state sdp (left (places_behind state sdp) sdp.media_lines)
 
 -- Whether a section of the place's name is there, if one is asked for.
 unfoldable pub is_found : List (List ℕ) → Place → Bool
 is_found names (Kept name) = is_among names name
 is_found names _ = true
 
--- Whether a text has the end's sections, in order, and those of the plan.
-abbrev pub has_planned : Plan → List MediaLine → Bool
-has_planned plan ms = begin_with (mids_of plan.sections) ms && list_all (is_found (mids_of ms)) plan.places
+-- Whether a text has the end's sections, in order, and those of the state.
+abbrev pub has_planned : BrowserState → List MediaLine → Bool
+has_planned state ms = begin_with (mids_of state.sections) ms && list_all (is_found (mids_of ms)) state.places
 
 -- Why an end's text, or its transport, can't be used for a browser.
-abbrev pub browser_refusal : Plan → Transport → Sdp → Option BrowserError
-browser_refusal plan t sdp = option_or (refused_if (not (are_ice_chars 4 t.creds.ufrag)) error.UfragNotFit)
+abbrev pub browser_refusal : BrowserState → Transport → Sdp → Option BrowserError
+browser_refusal state t sdp = option_or (refused_if (not (are_ice_chars 4 t.creds.ufrag)) error.UfragNotFit)
     (option_or (refused_if (not (are_ice_chars 22 t.creds.pass)) error.PasswordNotFit)
-    (option_or (refused_if (not (may_say plan.is_answering t.setup plan.setup plan.remote.setup)) error.SetupNotFit)
-    (refused_if (not (has_planned plan sdp.media_lines)) error.NotCorresponding)))
+    (option_or (refused_if (not (may_say state.is_answering t.setup state.setup state.remote.setup)) error.SetupNotFit)
+    (refused_if (not (has_planned state sdp.media_lines)) error.NotCorresponding)))

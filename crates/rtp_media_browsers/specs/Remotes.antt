@@ -18,7 +18,7 @@ use Rattle.sdp_formats_data.specs.Sessions as sessions
 use Rattle.sdp_formats_data.specs.Transport.{section_prints, session_prints}
 use Rattle.sdp_formats_values.specs.declared.candidate.IceCreds.{IceCreds}
 use Rattle.sdp_formats_values.specs.declared.setup.Setup.{Setup}
-use Rattle.rtp_media_browsers.specs.declared.plan.Remote.{Remote}
+use Rattle.rtp_media_browsers.specs.declared.state.Remote.{Remote}
 
 -- Nothing is said.
 abbrev pub silent : Remote

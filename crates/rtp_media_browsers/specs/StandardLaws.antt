@@ -17,7 +17,7 @@ use Rattle.rtp_media_browsers.specs.Fit.{left_over, may_say, settled}
 use Rattle.rtp_media_browsers.specs.Identities.{in_order, is_listed}
 use Rattle.rtp_media_browsers.specs.Laws.{IsEndText}
 use Rattle.rtp_media_browsers.specs.Remotes.{Tells}
-use Rattle.rtp_media_browsers.specs.declared.plan.Remote.{Remote}
+use Rattle.rtp_media_browsers.specs.declared.state.Remote.{Remote}
 
 -- What is told where a section has credentials of its own, if only the session has some, and where neither has.
 pub record TellsCreds (s : Session) (m : MediaLine) (remote : Remote) : Type 0 where

@@ -1,9 +1,10 @@
-//! Wishes that name their sections.
+//! Requests that name their sections.
 
 ghost use Rattle.std.specs.Prelude.{◌≡◌, [], IfErr, IfOk};
-ghost use Rattle.rtp_media_browsers.specs.Asking.{AreWishes, IsRefusedWish, chosen, given, is_for_kind, is_for_mid};
+ghost use Rattle.rtp_media_browsers.specs.Asking.{AreRequests, IsRefusedRequest, chosen, given, is_for_kind};
+ghost use Rattle.rtp_media_browsers.specs.Asking.{is_for_mid};
 ghost use Rattle.rtp_media_browsers.specs.Asking.{is_open, kind_from, left_over, left_refusal, named_from, place_asked};
-ghost use Rattle.rtp_media_browsers.specs.Asking.{behind_choice, wish_given};
+ghost use Rattle.rtp_media_browsers.specs.Asking.{behind_choice, request_given};
 ghost use Rattle.rtp_media_browsers.specs.Tidied.{tidied};
 
 use crate::error::BrowserError;
@@ -11,8 +12,8 @@ use crate::lines::bundled;
 use crate::placing::is_bundled_only;
 use crate::reading::read_whole;
 use crate::repairing::test_repairs;
+use crate::request::SectionRequest;
 use crate::tidying::tidied;
-use crate::wish::Wish;
 use media_types::MediaKind;
 use rtp_media_sections::{kind_of, mid_of};
 use rtp_wire::Mid;
@@ -20,70 +21,70 @@ use sdp_formats_data::{MediaLine, NameSet};
 use std::alloc::{AllocError, AllocFailed, Global};
 use thiserror::Error;
 
-/// Which section of an offer a wish is for.
+/// Which section of an offer a request is for.
 #[derive(Clone, Copy, Debug, PartialEq, Eq, Drop)]
 pub enum Target {
     /// The section of this name.
     Mid(Mid),
-    /// The first section of this kind that no other wish is for.
+    /// The first section of this kind that no other request is for.
     Kind(MediaKind),
 }
 
-/// A wish for one section of an offer.
+/// A request for one section of an offer.
 #[derive(Debug, Drop)]
-pub struct NamedWish {
+pub struct NamedRequest {
     /// Which section it is for.
     pub target: Target,
-    /// What is wished of it.
-    pub wish: Wish,
+    /// What is requested of it.
+    pub request: SectionRequest,
 }
 
-/// Why wishes don't fit an offer; of several reasons the first in this list is returned.
+/// Why requests don't fit an offer; of several reasons the first in this list is returned.
 #[derive(Clone, Copy, Debug, PartialEq, Eq, Drop, Error)]
-pub enum WishError {
+pub enum RequestError {
     /// The offer can't be read.
     #[error("{0}")]
     Text(BrowserError),
-    /// The offer has no such section in use, or another wish has it.
-    #[error("no section is there for a wish")]
+    /// The offer has no such section in use, or another request has it.
+    #[error("no section is there for a request")]
     NoSection(Target),
-    /// The wish for this section has repairs, and the section offers no retransmission (RFC 4588 8.1).
+    /// The request for this section has repairs, and the section offers no retransmission (RFC 4588 8.1).
     #[error("section {0} has no retransmission")]
     NoRetransmission(Mid),
 }
 
-impl From<BrowserError> for WishError {
+impl From<BrowserError> for RequestError {
     ghost use Rattle.std.specs.Prelude.{◌≡◌};
-    ghost use Rattle.rtp_media_browsers.specs.declared.asking.WishError.TheVariants.{Text};
+    ghost use Rattle.rtp_media_browsers.specs.declared.asking.RequestError.TheVariants.{Text};
 
     ghost from_gives = { λ b e. e ≡ Text b };
 
-    fn from(error: BrowserError) -> WishError {
-        WishError::Text(error)
+    fn from(error: BrowserError) -> RequestError {
+        RequestError::Text(error)
     }
 }
 
-impl From<AllocError> for WishError {
+impl From<AllocError> for RequestError {
     ghost use Rattle.std.specs.Prelude.{◌≡◌};
-    ghost use Rattle.rtp_media_browsers.specs.declared.asking.WishError.TheVariants.{Text};
+    ghost use Rattle.rtp_media_browsers.specs.declared.asking.RequestError.TheVariants.{Text};
     ghost use Rattle.rtp_media_browsers.specs.declared.error.BrowserError.TheVariants.{Memory};
 
     ghost from_gives = { λ _ e. e ≡ Text Memory };
 
-    fn from(_error: AllocError) -> WishError {
-        WishError::Text(BrowserError::Memory)
+    fn from(_error: AllocError) -> RequestError {
+        RequestError::Text(BrowserError::Memory)
     }
 }
 
-impl<T: Drop> From<AllocFailed<T>> for WishError {
+impl<T: Drop> From<AllocFailed<T>> for RequestError {
     ghost use Rattle.std.specs.Prelude.{◌≡◌};
-    ghost use Rattle.rtp_media_browsers.specs.declared.asking.WishError.TheVariants.{Text};
+    ghost use Rattle.rtp_media_browsers.specs.declared.asking.RequestError.TheVariants.{Text};
     ghost use Rattle.rtp_media_browsers.specs.declared.error.BrowserError.TheVariants.{Memory};
 
     ghost from_gives = { λ _ e. e ≡ Text Memory };
 
-    fn from(_error: AllocFailed<T>) -> WishError {
-        WishError::Text(BrowserError::Memory)
+    fn from(_error: AllocFailed<T>) -> RequestError {
+        RequestError::Text(BrowserError::Memory)
     }
 }
 
@@ -95,7 +96,7 @@ fn is_open(bundle: &NameSet<'_>, section: &MediaLine) -> bool
 }
 
 #[tactic(auto, unfolding(crate::specs::Asking::is_for_mid))]
-fn is_for_mid(mid: Mid, asked: &NamedWish) -> bool
+fn is_for_mid(mid: Mid, asked: &NamedRequest) -> bool
     ensures { result ≡ is_for_mid mid asked.now }
 {
     match asked.target {
@@ -105,7 +106,7 @@ fn is_for_mid(mid: Mid, asked: &NamedWish) -> bool
 }
 
 #[tactic(auto, unfolding(crate::specs::Asking::is_for_kind))]
-fn is_for_kind(is_audio: bool, asked: &NamedWish) -> bool
+fn is_for_kind(is_audio: bool, asked: &NamedRequest) -> bool
     ensures { result ≡ is_for_kind is_audio asked.now }
 {
     match asked.target {
@@ -115,32 +116,32 @@ fn is_for_kind(is_audio: bool, asked: &NamedWish) -> bool
     }
 }
 
-/// The first wish that names a section.
-fn named_at(asked: &[NamedWish], mid: Mid) -> Option<usize>
+/// The first request that names a section.
+fn named_at(asked: &[NamedRequest], mid: Mid) -> Option<usize>
     ensures { result ≡ named_from mid 0 asked.now }
 {
-    for (number, wish) in asked.iter().enumerate() {
-        if is_for_mid(mid, wish) {
+    for (number, request) in asked.iter().enumerate() {
+        if is_for_mid(mid, request) {
             return Some(number);
         }
     }
     None
 }
 
-/// The first wish for a section of a kind.
-fn kind_at(asked: &[NamedWish], is_audio: bool) -> Option<usize>
+/// The first request for a section of a kind.
+fn kind_at(asked: &[NamedRequest], is_audio: bool) -> Option<usize>
     ensures { result ≡ kind_from is_audio 0 asked.now }
 {
-    for (number, wish) in asked.iter().enumerate() {
-        if is_for_kind(is_audio, wish) {
+    for (number, request) in asked.iter().enumerate() {
+        if is_for_kind(is_audio, request) {
             return Some(number);
         }
     }
     None
 }
 
-/// The wish for a section: the first that names it, or else the first for its kind.
-fn place_asked(asked: &[NamedWish], section: &MediaLine) -> Option<usize>
+/// The request for a section: the first that names it, or else the first for its kind.
+fn place_asked(asked: &[NamedRequest], section: &MediaLine) -> Option<usize>
     ensures { result ≡ place_asked asked.now section.now }
 {
     match named_at(asked, mid_of(section)) {
@@ -149,7 +150,7 @@ fn place_asked(asked: &[NamedWish], section: &MediaLine) -> Option<usize>
     }
 }
 
-fn chosen(bundle: &NameSet<'_>, asked: &[NamedWish], section: &MediaLine) -> Option<usize>
+fn chosen(bundle: &NameSet<'_>, asked: &[NamedRequest], section: &MediaLine) -> Option<usize>
     ensures { result ≡ chosen bundle.now asked.now section.now }
 {
     if !is_open(bundle, section) {
@@ -158,81 +159,89 @@ fn chosen(bundle: &NameSet<'_>, asked: &[NamedWish], section: &MediaLine) -> Opt
     place_asked(asked, section)
 }
 
-/// Takes a wish out of those that are left.
-fn take_wish(asked: &mut Vec<NamedWish>, number: Option<usize>) -> Wish
-    ensures wish { result ≡ wish_given asked.old.items number }
+/// Takes a request out of those that are left.
+fn take_request(asked: &mut Vec<NamedRequest>, number: Option<usize>) -> SectionRequest
+    ensures request { result ≡ request_given asked.old.items number }
     ensures left { asked.new.items ≡ behind_choice asked.old.items number }
 {
     match number {
         Some(number) => {
             if number < asked.len() {
-                return asked.remove(number).wish;
+                return asked.remove(number).request;
             }
-            Wish::Reject
+            SectionRequest::Reject
         }
-        None => Wish::Reject,
+        None => SectionRequest::Reject,
     }
 }
 
-/// The wish for each section of an offer with this bundle; those that are for none are left.
+/// The request for each section of an offer with this bundle; those that are for none are left.
 fn given(
     alloc: Global,
     bundle: &[Mid],
-    asked: &mut Vec<NamedWish>,
+    asked: &mut Vec<NamedRequest>,
     sections: &[MediaLine],
-) -> Result<Vec<Wish>, AllocError>
-    ensures wishes { IfOk result (λ w. w.items ≡ given bundle.now asked.old.items sections.now) }
+) -> Result<Vec<SectionRequest>, AllocError>
+    ensures requests { IfOk result (λ w. w.items ≡ given bundle.now asked.old.items sections.now) }
     ensures left { IfOk result (λ w. asked.new.items ≡ left_over bundle.now asked.old.items sections.now) }
 {
     let bundle = NameSet::of(alloc, bundle)?;
-    let mut wishes = Vec::new(alloc);
+    let mut requests = Vec::new(alloc);
     for section in sections {
         let number = chosen(&bundle, asked.as_slice(), section);
-        wishes.push(take_wish(asked, number))?;
+        requests.push(take_request(asked, number))?;
     }
-    Ok(wishes)
+    Ok(requests)
 }
 
-/// A wish that no section takes.
-fn left_refusal(asked: &[NamedWish]) -> Option<WishError>
+/// A request that no section takes.
+fn left_refusal(asked: &[NamedRequest]) -> Option<RequestError>
     ensures { result ≡ left_refusal asked.now }
 {
     match asked.first() {
-        Some(wish) => Some(WishError::NoSection(wish.target)),
+        Some(request) => Some(RequestError::NoSection(request.target)),
         None => None,
     }
 }
 
-/// The wishes for the sections of an offer that is tidied.
-#[tactic(auto, using(crate::proofs::Asked::unread_wish, crate::proofs::Asked::want_of_wish, crate::proofs::Asked::refused_wish))]
-fn wishes_of(alloc: Global, offer: &str, asked: Vec<NamedWish>) -> Result<Vec<Wish>, WishError>
-    ensures wishes { IfOk result (λ w. AreWishes offer.now asked.items w.items) }
-    ensures refused { IfErr result (λ e. IsRefusedWish offer.now asked.items e) }
+/// The requests for the sections of an offer that is tidied.
+#[tactic(auto, using(crate::proofs::Asked::unread_request, crate::proofs::Asked::want_of_request, crate::proofs::Asked::refused_request))]
+fn requests_of(
+    alloc: Global,
+    offer: &str,
+    asked: Vec<NamedRequest>,
+) -> Result<Vec<SectionRequest>, RequestError>
+    ensures requests { IfOk result (λ w. AreRequests offer.now asked.items w.items) }
+    ensures refused { IfErr result (λ e. IsRefusedRequest offer.now asked.items e) }
 {
     let sdp = read_whole(alloc, offer)?;
     let sections = sdp.media_lines.as_slice();
     let mut asked = asked;
-    let wishes = given(alloc, bundled(&sdp), &mut asked, sections)?;
+    let requests = given(alloc, bundled(&sdp), &mut asked, sections)?;
     if let Some(error) = left_refusal(asked.as_slice()) {
         return Err(error);
     }
-    test_repairs(wishes.as_slice(), sections)?;
-    Ok(wishes)
+    test_repairs(requests.as_slice(), sections)?;
+    Ok(requests)
 }
 
-/// The wishes for the sections of an offer, in its order, for `for_end` and `sections_for`. Each section in use takes
-/// the first wish that names it, or else the first for its kind that no section before it took; one without a wish is
-/// rejected.
+/// The requests for the sections of an offer, in its order, for `for_end` and `sections_for`. Each section in use takes
+/// the first request that names it, or else the first for its kind that no section before it took; one without a
+/// request is rejected.
 ///
 /// # Errors
 ///
 /// `Text` with `Unreadable` or `RestUnread`, `NoSection`, `NoRetransmission`, the first that applies; or `Text` with
 /// `Memory`.
-#[tactic(auto, using(crate::proofs::Asked::want_of_wish))]
-pub fn wishes_for(alloc: Global, offer: &str, asked: Vec<NamedWish>) -> Result<Vec<Wish>, WishError>
-    ensures wishes { IfOk result (λ w. AreWishes (tidied offer.now) asked.items w.items) }
-    ensures refused { IfErr result (λ e. IsRefusedWish (tidied offer.now) asked.items e) }
+#[tactic(auto, using(crate::proofs::Asked::want_of_request))]
+pub fn requests_for(
+    alloc: Global,
+    offer: &str,
+    asked: Vec<NamedRequest>,
+) -> Result<Vec<SectionRequest>, RequestError>
+    ensures requests { IfOk result (λ w. AreRequests (tidied offer.now) asked.items w.items) }
+    ensures refused { IfErr result (λ e. IsRefusedRequest (tidied offer.now) asked.items e) }
 {
     let offer = tidied(alloc, offer)?;
-    wishes_of(alloc, offer.as_str(), asked)
+    requests_of(alloc, offer.as_str(), asked)
 }

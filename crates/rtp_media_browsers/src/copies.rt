@@ -3,7 +3,7 @@
 ghost use Rattle.std.specs.Prelude.{◌≡◌, IfOk};
 
 use crate::identity::{Identity, Said, Track};
-use crate::plan::{Place, Plan, Remote};
+use crate::state::{BrowserState, Place, Remote};
 use sdp_formats_data::MediaLine;
 use sdp_formats_grammar::Listed;
 use sdp_formats_values::{Candidate, Fingerprint, IceCreds};
@@ -96,16 +96,16 @@ impl Said {
     }
 }
 
-impl Plan {
+impl BrowserState {
     /// A copy, to go back to where an end refuses what it is handed.
     ///
     /// # Errors
     ///
     /// `AllocError` if memory runs out.
-    pub fn clone(&self, alloc: Global) -> Result<Plan, AllocError>
+    pub fn clone(&self, alloc: Global) -> Result<BrowserState, AllocError>
         ensures { IfOk result (λ copy. copy ≡ self.now) }
     {
-        Ok(Plan {
+        Ok(BrowserState {
             places: clone_all(alloc, self.places.as_slice())?,
             sections: MediaLine::clone_all(alloc, self.sections.as_slice())?,
             allows_mixed: self.allows_mixed,

@@ -21,8 +21,8 @@ pub enum BrowserError {
     /// Two sections have the same mid.
     #[error("two sections have one name")]
     MidTwice,
-    /// The sections don't start with those of the plan, by mid.
-    #[error("the sections are not those of the plan")]
+    /// The sections don't start with those of the state, by mid.
+    #[error("the sections are not those of the state")]
     NotCorresponding,
     /// The browser rejects this section of the end's offer: withdraw the offer, and make it without
     /// the section.

@@ -1,4 +1,4 @@
-//! Wishes for the sections of an offer that have a row in common with the end.
+//! Requests for the sections of an offer that have a row in common with the end.
 
 ghost use Rattle.std.specs.Prelude.{◌≡◌, ◌≢◌, ◌&&◌, ◌==◌, IfErr, IfOk, Err, Ok, false, filter, find, map, true};
 ghost use Rattle.std.specs.List.{list_any};
@@ -16,9 +16,9 @@ ghost use Rattle.sdp_formats_rounds.specs.declared.error.RoundError.TheVariants.
 
 use crate::calls::offer_handed;
 use crate::error::BrowserError;
-use crate::plan::{Place, Plan};
+use crate::request::SectionRequest;
+use crate::state::{BrowserState, Place};
 use crate::tidying::tidied;
-use crate::wish::Wish;
 use rtp_media_sections::Section;
 use rtp_wire::{Direction, Mid, Pt};
 use sdp_formats_data::{MediaLine, NameSet, SdpError};
@@ -143,16 +143,16 @@ fn said_to_end(alloc: Global, text: &str) -> Result<Vec<Section>, AllocError>
 /// The names of the sections that have no row in common with an end of this config, of what it is handed of an offer.
 fn lacking(
     alloc: Global,
-    plan: &mut Plan,
+    state: &mut BrowserState,
     config: &CodecConfig,
     offer: &str,
-    wishes: &[Wish],
+    requests: &[SectionRequest],
 ) -> Result<Vec<Mid>, BrowserError>
     ensures lacks { IfOk result
-        (λ names. Lacks offer.now config.now.rows wishes.now plan.old plan.new names.items) }
-    ensures refused { IfErr result (λ e. RefusesOffer offer.now plan.old wishes.now e) }
+        (λ names. Lacks offer.now config.now.rows requests.now state.old state.new names.items) }
+    ensures refused { IfErr result (λ e. RefusesOffer offer.now state.old requests.now e) }
 {
-    let handed = offer_handed(alloc, plan, offer, wishes)?;
+    let handed = offer_handed(alloc, state, offer, requests)?;
     let sections = said_to_end(alloc, handed.as_str())?;
     Ok(names_without(alloc, config, sections.as_slice())?)
 }
@@ -192,28 +192,28 @@ fn after_first(places: &[Place]) -> &[Place]
     }
 }
 
-fn left_of(is_rejected: bool, wish: Wish) -> Wish
-    ensures { result ≡ left_of is_rejected wish }
+fn left_of(is_rejected: bool, request: SectionRequest) -> SectionRequest
+    ensures { result ≡ left_of is_rejected request }
 {
     if is_rejected {
-        return Wish::Reject;
+        return SectionRequest::Reject;
     }
-    wish
+    request
 }
 
-/// The wishes, place by place: those of sections of these names are rejected.
+/// The requests, place by place: those of sections of these names are rejected.
 fn without_named(
     alloc: Global,
     names: &NameSet<'_>,
     places: &[Place],
-    wishes: Vec<Wish>,
-) -> Result<Vec<Wish>, AllocError>
-    ensures { IfOk result (λ w. w.items ≡ without_named names.now places.now wishes.items) }
+    requests: Vec<SectionRequest>,
+) -> Result<Vec<SectionRequest>, AllocError>
+    ensures { IfOk result (λ w. w.items ≡ without_named names.now places.now requests.items) }
 {
     let mut left = Vec::new(alloc);
     let mut rest = places;
-    for wish in wishes {
-        left.push(left_of(begins_with_named(names, rest), wish))?;
+    for request in requests {
+        left.push(left_of(begins_with_named(names, rest), request))?;
         rest = after_first(rest);
     }
     Ok(left)
@@ -222,45 +222,45 @@ fn without_named(
 /// Rejects the sections without a row in common of a tidied offer; and whether there are some.
 fn reject_lacking(
     alloc: Global,
-    plan: &Plan,
+    state: &BrowserState,
     config: &CodecConfig,
     offer: &str,
-    wishes: Vec<Wish>,
-) -> Result<(Vec<Wish>, bool), BrowserError>
+    requests: Vec<SectionRequest>,
+) -> Result<(Vec<SectionRequest>, bool), BrowserError>
     ensures some { IfOk result
-        (λ r. r.1 ≡ true → Rejects offer.now plan.now config.now.rows wishes.items r.0.items) }
+        (λ r. r.1 ≡ true → Rejects offer.now state.now config.now.rows requests.items r.0.items) }
     ensures none { IfOk result
-        (λ r. r.1 ≡ false → HasRows offer.now plan.now config.now.rows r.0.items) }
-    ensures same { IfOk result (λ r. r.1 ≡ false → r.0.items ≡ wishes.items) }
-    ensures refused { IfErr result (λ e. RefusesOffer offer.now plan.now wishes.items e) }
+        (λ r. r.1 ≡ false → HasRows offer.now state.now config.now.rows r.0.items) }
+    ensures same { IfOk result (λ r. r.1 ≡ false → r.0.items ≡ requests.items) }
+    ensures refused { IfErr result (λ e. RefusesOffer offer.now state.now requests.items e) }
 {
-    let mut planned = plan.clone(alloc)?;
-    let names = lacking(alloc, &mut planned, config, offer, wishes.as_slice())?;
+    let mut planned = state.clone(alloc)?;
+    let names = lacking(alloc, &mut planned, config, offer, requests.as_slice())?;
     let names = NameSet::of(alloc, names.as_slice())?;
     let places = planned.places.as_slice();
     if !is_any_named(&names, places) {
-        return Ok((wishes, false));
+        return Ok((requests, false));
     }
-    Ok((without_named(alloc, &names, places, wishes)?, true))
+    Ok((without_named(alloc, &names, places, requests)?, true))
 }
 
 /// The same until there is none.
-#[tactic(auto, using(crate::proofs::FewerWishes::nothing_rejected, crate::proofs::FewerWishes::one_more_turn, crate::proofs::FewerWishes::in_common, crate::proofs::FewerWishes::not_in_common, crate::proofs::FewerWishes::fewer_accepted))]
+#[tactic(auto, using(crate::proofs::FewerRequests::nothing_rejected, crate::proofs::FewerRequests::one_more_turn, crate::proofs::FewerRequests::in_common, crate::proofs::FewerRequests::not_in_common, crate::proofs::FewerRequests::fewer_accepted))]
 fn reject_in_turn(
     alloc: Global,
-    plan: &Plan,
+    state: &BrowserState,
     config: &CodecConfig,
     offer: &str,
-    wishes: Vec<Wish>,
-) -> Result<Vec<Wish>, BrowserError>
-    ensures wishes { IfOk result
-        (λ w. AreInCommon offer.now plan.now config.now.rows wishes.items w.items) }
+    requests: Vec<SectionRequest>,
+) -> Result<Vec<SectionRequest>, BrowserError>
+    ensures requests { IfOk result
+        (λ w. AreInCommon offer.now state.now config.now.rows requests.items w.items) }
     ensures refused { IfErr result
-        (λ e. RefusesInCommon offer.now plan.now config.now.rows wishes.items e) }
+        (λ e. RefusesInCommon offer.now state.now config.now.rows requests.items e) }
 {
-    let mut left = wishes;
+    let mut left = requests;
     loop {
-        let (next, some) = reject_lacking(alloc, plan, config, offer, left)?;
+        let (next, some) = reject_lacking(alloc, state, config, offer, left)?;
         if !some {
             return Ok(next);
         }
@@ -268,30 +268,30 @@ fn reject_in_turn(
     }
 }
 
-/// The wishes for an offer, with those rejected whose sections have no row in common with the end (RFC 3264 6), and
+/// The requests for an offer, with those rejected whose sections have no row in common with the end (RFC 3264 6), and
 /// all others as they are, for `for_end` and `sections_for`: the sections to which the answer of an end with this
 /// config would list no row. The rounds go without what is rejected, so the offer is looked at again until there is
-/// none, at most once for each wish that accepts. The end then doesn't refuse what it is handed as `NoCommonRow`,
+/// none, at most once for each request that accepts. The end then doesn't refuse what it is handed as `NoCommonRow`,
 /// except for a section that was stopped.
 ///
-/// `config` is the end's own, as `End::config` tells it; `plan` is that from before the offer, and doesn't change.
+/// `config` is the end's own, as `End::config` tells it; `state` is that from before the offer, and doesn't change.
 ///
 /// # Errors
 ///
-/// Those of `for_end`, by these wishes or with sections rejected: `NothingLeft` if no section has a row in common.
-#[tactic(auto, using(crate::proofs::FewerWishes::want_in_common))]
-pub fn wishes_in_common(
+/// Those of `for_end`, by these requests or with sections rejected: `NothingLeft` if no section has a row in common.
+#[tactic(auto, using(crate::proofs::FewerRequests::want_in_common))]
+pub fn requests_in_common(
     alloc: Global,
-    plan: &Plan,
+    state: &BrowserState,
     config: &CodecConfig,
     offer: &str,
-    wishes: Vec<Wish>,
-) -> Result<Vec<Wish>, BrowserError>
-    ensures wishes { IfOk result
-        (λ w. AreInCommon (tidied offer.now) plan.now config.now.rows wishes.items w.items) }
+    requests: Vec<SectionRequest>,
+) -> Result<Vec<SectionRequest>, BrowserError>
+    ensures requests { IfOk result
+        (λ w. AreInCommon (tidied offer.now) state.now config.now.rows requests.items w.items) }
     ensures refused { IfErr result
-        (λ e. RefusesInCommon (tidied offer.now) plan.now config.now.rows wishes.items e) }
+        (λ e. RefusesInCommon (tidied offer.now) state.now config.now.rows requests.items e) }
 {
     let offer = tidied(alloc, offer)?;
-    reject_in_turn(alloc, plan, config, offer.as_str(), wishes)
+    reject_in_turn(alloc, state, config, offer.as_str(), requests)
 }

@@ -7,9 +7,9 @@ ghost use Rattle.rtp_media_browsers.specs.InCommon.{AnswersInCommon, OnlyRejects
 ghost use Rattle.rtp_media_browsers.specs.Laws.{AreWanted, ComesBack, EachInItsPlace, GoesOn, IsHalted, LinesStay};
 ghost use Rattle.rtp_media_browsers.specs.Laws.{NothingChanges, SectionsComeBack, TakenAreRejected};
 ghost use Rattle.rtp_media_browsers.specs.StandardLaws.{EndsWriteEndTexts, OrdersTypes, RolesFit, TellsByLevels};
-ghost use Rattle.rtp_media_browsers.specs.declared.plan.Plan.{Plan};
+ghost use Rattle.rtp_media_browsers.specs.declared.state.BrowserState.{BrowserState};
 ghost use Rattle.rtp_media_browsers.specs.declared.transport.Transport.{Transport};
-ghost use Rattle.rtp_media_browsers.specs.declared.wish.Wish.{Wish};
+ghost use Rattle.rtp_media_browsers.specs.declared.request.SectionRequest.{SectionRequest};
 
 /// If each section is accepted, the first text made for a browser from an end's text reads, for an end, as that text
 /// again: a text as ends write them, of audio and video that isn't rejected, without transport lines, whose BUNDLE
@@ -29,7 +29,7 @@ pub fn places_law()
 
 /// An answer for a browser, of its first offer or a later one, has a section for each of the offer's, in its place and
 /// under its name; port 0 is that of exactly those that aren't answered, and the bundle names exactly the others (RFC
-/// 3264 6, RFC 8829 5.3.1, RFC 9143 7.3.3). Any text, the end's offers too, has a section at each place of the plan,
+/// 3264 6, RFC 8829 5.3.1, RFC 9143 7.3.3). Any text, the end's offers too, has a section at each place of the state,
 /// and its bundle names exactly those whose port isn't 0 (RFC 3264 8).
 pub fn answer_law()
     ensures answers { AnswersEachSection }
@@ -41,7 +41,7 @@ pub fn answer_law()
 /// inactive, and has its name, kind and payload types.
 pub fn following_law()
     ensures goes_on { (olds ms : List MediaLine) → GoesOn olds ms }
-    ensures wanted { (plan : Plan) (wishes : List Wish) → AreWanted plan wishes }
+    ensures wanted { (state : BrowserState) (requests : List SectionRequest) → AreWanted state requests }
     ensures halted { (m : MediaLine) → IsHalted m }
 {}
 
@@ -74,7 +74,7 @@ pub fn end_text_law()
     ensures { EndsWriteEndTexts }
 {}
 
-/// Wishes with sections rejected that have no row in common are otherwise as they were, and the end then refuses what
+/// Requests with sections rejected that have no row in common are otherwise as they were, and the end then refuses what
 /// it is handed for want of a row in common only if that is a section that was stopped (RFC 3264 6).
 pub fn in_common_law()
     ensures others { OnlyRejects }

@@ -5,7 +5,6 @@ mod asking;
 mod calls;
 mod copies;
 mod defaults;
-mod dressing;
 mod error;
 mod fit;
 mod following;
@@ -17,29 +16,30 @@ mod laws;
 mod lines;
 mod names;
 mod placing;
-mod plan;
 mod reading;
 mod refusals;
 mod repairing;
+mod request;
+mod state;
 mod stopping;
 mod telling;
 mod tidying;
 mod transport;
 mod versions;
 mod wanted;
-mod wish;
+mod with_transport;
 
-pub use asking::{NamedWish, Target, WishError, wishes_for};
+pub use asking::{NamedRequest, RequestError, Target, requests_for};
 pub use calls::{answer_for_end, for_browser, for_end};
 pub use defaults::{map_for_browsers, rows_for_browsers};
 pub use error::BrowserError;
 pub use identity::{Identity, Said, Track};
-pub use in_common::wishes_in_common;
+pub use in_common::requests_in_common;
 pub use laws::{
     answer_law, end_text_law, following_law, in_common_law, levels_law, lines_law, order_law,
     places_law, return_law, roles_law,
 };
-pub use plan::{Place, Plan, Remote};
+pub use request::SectionRequest;
+pub use state::{BrowserState, Place, Remote};
 pub use transport::{Gathering, Transport};
 pub use wanted::sections_for;
-pub use wish::Wish;

@@ -8,8 +8,8 @@ ghost use Rattle.std.specs.Option.{option_copied};
 
 use crate::following::{push_new, section_named};
 use crate::lines::has_bundle_only;
-use crate::plan::Place;
-use crate::wish::{Wish, is_accepted};
+use crate::request::{SectionRequest, is_accepted};
+use crate::state::Place;
 use rtp_media_sections::mid_of;
 use rtp_wire::Mid;
 use sdp_formats_data::{MediaAttribute, MediaLine, NameSet};
@@ -24,12 +24,16 @@ pub(crate) fn is_bundled_only(bundle: &NameSet<'_>, section: &MediaLine) -> bool
 }
 
 /// Whether a section of an offer is removed.
-pub(crate) fn is_taken(bundle: &NameSet<'_>, wish: Option<&Wish>, section: &MediaLine) -> bool
-    ensures { result ≡ is_taken bundle.now (option_copied wish.entry) section.now }
+pub(crate) fn is_taken(
+    bundle: &NameSet<'_>,
+    request: Option<&SectionRequest>,
+    section: &MediaLine,
+) -> bool
+    ensures { result ≡ is_taken bundle.now (option_copied request.entry) section.now }
 {
     !section.typ.is_media()
         || (section.disabled && !is_bundled_only(bundle, section))
-        || !is_accepted(wish)
+        || !is_accepted(request)
 }
 
 /// Whether it maps a payload type.
@@ -89,12 +93,12 @@ pub(crate) fn rejected(alloc: Global, section: &MediaLine) -> Result<MediaLine, 
 fn place_of(
     alloc: Global,
     bundle: &NameSet<'_>,
-    wish: Option<&Wish>,
+    request: Option<&SectionRequest>,
     section: &MediaLine,
 ) -> Result<Place, AllocError>
-    ensures { IfOk result (λ p. p ≡ place_of bundle.now (option_copied wish.entry) section.now) }
+    ensures { IfOk result (λ p. p ≡ place_of bundle.now (option_copied request.entry) section.now) }
 {
-    if is_taken(bundle, wish, section) {
+    if is_taken(bundle, request, section) {
         return Ok(Place::Taken(rejected(alloc, section)?));
     }
     Ok(Place::Kept(mid_of(section)))
@@ -104,15 +108,15 @@ fn place_of(
 pub(crate) fn places_of(
     alloc: Global,
     bundle: &[Mid],
-    wishes: &[Wish],
+    requests: &[SectionRequest],
     sections: &[MediaLine],
 ) -> Result<Listed<Place>, AllocError>
-    ensures { IfOk result (λ l. l ≡ places_from bundle.now wishes.now 0 sections.now) }
+    ensures { IfOk result (λ l. l ≡ places_from bundle.now requests.now 0 sections.now) }
 {
     let bundle = NameSet::of(alloc, bundle)?;
     let mut places = Listed::new(alloc);
     for (number, section) in sections.iter().enumerate() {
-        places.push(place_of(alloc, &bundle, wishes.get(number), section)?)?;
+        places.push(place_of(alloc, &bundle, requests.get(number), section)?)?;
     }
     Ok(places)
 }

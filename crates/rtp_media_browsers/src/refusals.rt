@@ -14,7 +14,7 @@ use crate::error::BrowserError;
 use crate::fit::{are_ice_chars, may_say};
 use crate::lines::{bundled, count_bundles, has_crypto};
 use crate::names::{changed_name, mids_of};
-use crate::plan::{Place, Plan};
+use crate::state::{BrowserState, Place};
 use crate::transport::Transport;
 use rtp_media_sections::mid_of;
 use rtp_wire::Mid;
@@ -229,18 +229,18 @@ fn are_at(places: &[Place], sections: &[MediaLine]) -> bool
 pub(crate) fn test_answer(
     alloc: Global,
     text: &str,
-    plan: &Plan,
+    state: &BrowserState,
     sdp: &Sdp,
     sections: &[MediaLine],
 ) -> Result<(), BrowserError>
-    ensures { Checks (answer_test text.now plan.now sdp.now sections.now) result }
+    ensures { Checks (answer_test text.now state.now sdp.now sections.now) result }
 {
     refuse(name_refusal(alloc, text, sdp.media_lines.as_slice())?)?;
-    if !are_at(plan.places.as_slice(), sdp.media_lines.as_slice()) {
+    if !are_at(state.places.as_slice(), sdp.media_lines.as_slice()) {
         return Err(BrowserError::NotCorresponding);
     }
     refuse(first_rejected(sections))?;
-    refuse(bundle_refusal(alloc, plan.sections.as_slice(), sdp, sections)?)
+    refuse(bundle_refusal(alloc, state.sections.as_slice(), sdp, sections)?)
 }
 
 /// Whether the section of a place is among these.
@@ -260,14 +260,18 @@ fn are_found(names: &NameSet<'_>, places: &[Place]) -> bool
     places.iter().all(|place| is_found(names, place))
 }
 
-/// Whether a text has the end's sections, in order, and those of the plan.
-fn has_planned(alloc: Global, plan: &Plan, sections: &[MediaLine]) -> Result<bool, AllocError>
-    ensures { IfOk result (λ b. b ≡ has_planned plan.now sections.now) }
+/// Whether a text has the end's sections, in order, and those of the state.
+fn has_planned(
+    alloc: Global,
+    state: &BrowserState,
+    sections: &[MediaLine],
+) -> Result<bool, AllocError>
+    ensures { IfOk result (λ b. b ≡ has_planned state.now sections.now) }
 {
-    let olds = mids_of(alloc, plan.sections.as_slice())?;
+    let olds = mids_of(alloc, state.sections.as_slice())?;
     let mids = mids_of(alloc, sections)?;
     let names = NameSet::of(alloc, mids.as_slice())?;
-    Ok(begin_with(olds.as_slice(), sections) && are_found(&names, plan.places.as_slice()))
+    Ok(begin_with(olds.as_slice(), sections) && are_found(&names, state.places.as_slice()))
 }
 
 /// Tests a text of an end, and its transport.
@@ -277,11 +281,11 @@ fn has_planned(alloc: Global, plan: &Plan, sections: &[MediaLine]) -> Result<boo
 /// `UfragNotFit`, `PasswordNotFit`, `SetupNotFit`, `NotCorresponding`, the first that applies; or `Memory`.
 pub(crate) fn test_own(
     alloc: Global,
-    plan: &Plan,
+    state: &BrowserState,
     transport: &Transport,
     sdp: &Sdp,
 ) -> Result<(), BrowserError>
-    ensures { Checks (browser_refusal plan.now transport.now sdp.now) result }
+    ensures { Checks (browser_refusal state.now transport.now sdp.now) result }
 {
     if !are_ice_chars(4, transport.creds.ufrag.as_str()) {
         return Err(BrowserError::UfragNotFit);
@@ -290,14 +294,14 @@ pub(crate) fn test_own(
         return Err(BrowserError::PasswordNotFit);
     }
     if !may_say(
-        plan.is_answering,
+        state.is_answering,
         transport.setup,
-        plan.setup,
-        plan.remote.setup,
+        state.setup,
+        state.remote.setup,
     ) {
         return Err(BrowserError::SetupNotFit);
     }
-    if !has_planned(alloc, plan, sdp.media_lines.as_slice())? {
+    if !has_planned(alloc, state, sdp.media_lines.as_slice())? {
         return Err(BrowserError::NotCorresponding);
     }
     Ok(())

@@ -4,8 +4,8 @@ ghost use Rattle.std.specs.Prelude.{◌≡◌, None, Some, IfErr, OnOk};
 ghost use Rattle.std.specs.List.{list_any};
 ghost use Rattle.rtp_media_browsers.specs.Asking.{first_unrepaired, has_repairs, is_rtx, maps_rtx, unrepaired};
 
-use crate::asking::WishError;
-use crate::wish::Wish;
+use crate::asking::RequestError;
+use crate::request::SectionRequest;
 use media_types::Codec;
 use rtp_media_sections::mid_of;
 use sdp_formats_data::{MediaAttribute, MediaLine};
@@ -33,38 +33,41 @@ fn offers_rtx(attributes: &[MediaAttribute]) -> bool
     attributes.iter().any(|attribute| maps_rtx(attribute))
 }
 
-fn has_repairs(wish: &Wish) -> bool
-    ensures { result ≡ has_repairs wish.now }
+fn has_repairs(request: &SectionRequest) -> bool
+    ensures { result ≡ has_repairs request.now }
 {
-    match wish {
-        Wish::Accept { repairs, .. } => !repairs.is_empty(),
-        Wish::Reject => false,
+    match request {
+        SectionRequest::Accept { repairs, .. } => !repairs.is_empty(),
+        SectionRequest::Reject => false,
     }
 }
 
-/// Why the wish for a section doesn't fit it.
-fn unrepaired(wish: &Wish, section: &MediaLine) -> Option<WishError>
-    ensures { result ≡ unrepaired wish.now section.now }
+/// Why the request for a section doesn't fit it.
+fn unrepaired(request: &SectionRequest, section: &MediaLine) -> Option<RequestError>
+    ensures { result ≡ unrepaired request.now section.now }
 {
-    if has_repairs(wish) && !offers_rtx(section.attrs.as_slice()) {
-        return Some(WishError::NoRetransmission(mid_of(section)));
+    if has_repairs(request) && !offers_rtx(section.attrs.as_slice()) {
+        return Some(RequestError::NoRetransmission(mid_of(section)));
     }
     None
 }
 
-/// That each section with repairs in its wish offers retransmission.
+/// That each section with repairs in its request offers retransmission.
 ///
 /// # Errors
 ///
 /// `NoRetransmission` with the name of the first that doesn't.
-pub(crate) fn test_repairs(wishes: &[Wish], sections: &[MediaLine]) -> Result<(), WishError>
-    ensures ok { OnOk result (first_unrepaired wishes.now sections.now ≡ None) }
-    ensures refused { IfErr result (λ e. first_unrepaired wishes.now sections.now ≡ Some e) }
+pub(crate) fn test_repairs(
+    requests: &[SectionRequest],
+    sections: &[MediaLine],
+) -> Result<(), RequestError>
+    ensures ok { OnOk result (first_unrepaired requests.now sections.now ≡ None) }
+    ensures refused { IfErr result (λ e. first_unrepaired requests.now sections.now ≡ Some e) }
 {
-    for (number, wish) in wishes.iter().enumerate() {
+    for (number, request) in requests.iter().enumerate() {
         match sections.get(number) {
             Some(section) => {
-                if let Some(error) = unrepaired(wish, section) {
+                if let Some(error) = unrepaired(request, section) {
                     return Err(error);
                 }
             }

@@ -10,7 +10,7 @@ ghost use Rattle.rtp_media_browsers.specs.Places.{stopped_place};
 use crate::copies::clone_all;
 use crate::following::{has_name, section_named};
 use crate::placing::rejected;
-use crate::plan::{Place, Plan};
+use crate::state::{BrowserState, Place};
 use rtp_media_sections::mid_of;
 use rtp_wire::Mid;
 use sdp_formats_data::MediaLine;
@@ -43,7 +43,7 @@ fn answered_place(alloc: Global, place: &Place, section: &MediaLine) -> Result<P
     }
 }
 
-/// The place of a section of the browser's answer, if the plan has one or if it is new.
+/// The place of a section of the browser's answer, if the state has one or if it is new.
 fn answered_or_new(
     alloc: Global,
     place: Option<&Place>,
@@ -83,13 +83,13 @@ fn freed(alloc: Global, place: &Place) -> Result<Place, AllocError>
 }
 
 /// The places after a text for the browser.
-pub(crate) fn told_places(alloc: Global, plan: &Plan) -> Result<Listed<Place>, AllocError>
-    ensures { IfOk result (λ l. l ≡ told_places plan.now) }
+pub(crate) fn told_places(alloc: Global, state: &BrowserState) -> Result<Listed<Place>, AllocError>
+    ensures { IfOk result (λ l. l ≡ told_places state.now) }
 {
-    if !plan.is_answering {
-        return clone_all(alloc, plan.places.as_slice());
+    if !state.is_answering {
+        return clone_all(alloc, state.places.as_slice());
     }
-    all_freed(alloc, plan.places.as_slice())
+    all_freed(alloc, state.places.as_slice())
 }
 
 fn all_freed(alloc: Global, places: &[Place]) -> Result<Listed<Place>, AllocError>
@@ -139,15 +139,15 @@ fn stopped_places(
     Ok(after)
 }
 
-impl Plan {
+impl BrowserState {
     /// Stops the section of a name: the end's next text rejects it in its place (RFC 8829 5.2.2). The end still has
     /// the section, and offers it inactive. A name that the end doesn't have changes nothing. Once the browser answered
-    /// that, its place is free for a new section. If the offer is then withdrawn, go on with a copy of the plan that
+    /// that, its place is free for a new section. If the offer is then withdrawn, go on with a copy of the state that
     /// was made before.
     ///
     /// # Errors
     ///
-    /// `AllocError` if memory runs out. The plan is then as before.
+    /// `AllocError` if memory runs out. The state is then as before.
     pub fn stop(&mut self, alloc: Global, mid: Mid) -> Result<(), AllocError>
         ensures stopped { OnOk result (self.new ≡ record self.old {
           places = map (stopped_place (section_named self.old.sections mid) mid) self.old.places;

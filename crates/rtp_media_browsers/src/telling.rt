@@ -9,7 +9,7 @@ ghost use Rattle.sdp_formats_data.specs.Transport.{section_prints, session_print
 ghost use Rattle.rtp_media_browsers.specs.Remotes.{Tells, TellsFirst, creds_told, else_of, names_trickle};
 ghost use Rattle.rtp_media_browsers.specs.Remotes.{session_trickles, setup_told, trickles};
 
-use crate::plan::Remote;
+use crate::state::Remote;
 use sdp_formats_data::{MediaAttribute, MediaLine, Session, SessionAttribute};
 use sdp_formats_grammar::{Listed, first_part};
 use sdp_formats_values::{Candidate, Fingerprint, IceCreds, Setup};

@@ -2,11 +2,11 @@
 
 ghost use Rattle.std.specs.Prelude.{◌≡◌, IfOk};
 ghost use Rattle.std.specs.Option.{option_copied};
-ghost use Rattle.rtp_media_browsers.specs.Wanted.{number_from, wanted, wanted_in, wanted_of, wish_at};
+ghost use Rattle.rtp_media_browsers.specs.Wanted.{number_from, wanted, wanted_in, wanted_of, request_at};
 
 use crate::placing::is_place_of;
-use crate::plan::{Place, Plan};
-use crate::wish::Wish;
+use crate::request::SectionRequest;
+use crate::state::{BrowserState, Place};
 use rtp_media_sections::{SectionSpec, kind_of, mid_of};
 use rtp_wire::{Direction, Mid};
 use sdp_formats_data::MediaLine;
@@ -24,10 +24,10 @@ fn number_of(places: &[Place], mid: Mid) -> Option<usize>
     None
 }
 
-impl Plan {
+impl BrowserState {
     /// The place of the section of a name in the browser's texts, counted from 0, if it isn't rejected. Where the
-    /// end refuses what it was handed as `NoCommonRow`, reject the section of that name alone: make its wish `Reject`,
-    /// and go on with the plan from before (RFC 3264 6).
+    /// end refuses what it was handed as `NoCommonRow`, reject the section of that name alone: make its request
+    /// `Reject`, and go on with the state from before (RFC 3264 6).
     pub fn place_of(&self, mid: Mid) -> Option<usize>
         ensures { result ≡ number_from mid 0 self.now.places }
     {
@@ -35,27 +35,27 @@ impl Plan {
     }
 }
 
-/// The wish for a place.
-fn wish_at(wishes: &[Wish], number: Option<usize>) -> Option<&Wish>
-    ensures { option_copied result ≡ wish_at wishes.now number }
+/// The request for a place.
+fn request_at(requests: &[SectionRequest], number: Option<usize>) -> Option<&SectionRequest>
+    ensures { option_copied result ≡ request_at requests.now number }
 {
     match number {
-        Some(number) => wishes.get(number),
+        Some(number) => requests.get(number),
         None => None,
     }
 }
 
-/// A section of an end as it is wished for.
+/// A section of an end as it is requested for.
 fn wanted(
     alloc: Global,
-    wish: Option<&Wish>,
+    request: Option<&SectionRequest>,
     section: &MediaLine,
 ) -> Result<SectionSpec, AllocError>
-    ensures { IfOk result (λ w. w ≡ wanted (option_copied wish.entry) section.now) }
+    ensures { IfOk result (λ w. w ≡ wanted (option_copied request.entry) section.now) }
 {
-    match wish {
+    match request {
         Some(
-            Wish::Accept {
+            SectionRequest::Accept {
                 direction,
                 ssrcs,
                 repairs,
@@ -77,36 +77,36 @@ fn wanted(
     }
 }
 
-/// A section of the plan's end as it is wished for.
+/// A section of the state's end as it is requested for.
 fn wanted_in(
     alloc: Global,
-    plan: &Plan,
-    wishes: &[Wish],
+    state: &BrowserState,
+    requests: &[SectionRequest],
     section: &MediaLine,
 ) -> Result<SectionSpec, AllocError>
-    ensures { IfOk result (λ w. w ≡ wanted_in plan.now wishes.now section.now) }
+    ensures { IfOk result (λ w. w ≡ wanted_in state.now requests.now section.now) }
 {
-    let number = plan.place_of(mid_of(section));
-    wanted(alloc, wish_at(wishes, number), section)
+    let number = state.place_of(mid_of(section));
+    wanted(alloc, request_at(requests, number), section)
 }
 
-/// The sections of an end's answer, in its order, after `for_end` and with the wishes that it was given: each section
-/// that the end has, as it is wished for; one that was stopped or is rejected is inactive, without SSRCs.
+/// The sections of an end's answer, in its order, after `for_end` and with the requests that it was given: each section
+/// that the end has, as it is requested for; one that was stopped or is rejected is inactive, without SSRCs.
 ///
 /// # Errors
 ///
 /// `AllocError` if memory runs out.
 pub fn sections_for(
     alloc: Global,
-    plan: &Plan,
-    wishes: &[Wish],
+    state: &BrowserState,
+    requests: &[SectionRequest],
 ) -> Result<Vec<SectionSpec>, AllocError>
-    ensures { IfOk result (λ specs. specs.items ≡ wanted_of plan.now wishes.now) }
+    ensures { IfOk result (λ specs. specs.items ≡ wanted_of state.now requests.now) }
 {
     let mut specs = Vec::new(alloc);
-    let sections = plan.sections.as_slice();
+    let sections = state.sections.as_slice();
     for section in sections {
-        specs.push(wanted_in(alloc, plan, wishes, section)?)?;
+        specs.push(wanted_in(alloc, state, requests, section)?)?;
     }
     Ok(specs)
 }

@@ -6,7 +6,7 @@ use Rattle.rtp_media_exchange.specs.Offers.{Accepts, Answers, offer_of}
 use Rattle.rtp_media_exchange.specs.Refusals.{MayAccept, MayAnswer, Refuses, RefusesAccept, RefusesAnswer}
 use Rattle.rtp_media_exchange.specs.Refusals.{refusal_of_offer}
 use Rattle.rtp_media_exchange.specs.Says.{AgreesOnText}
-use Rattle.rtp_media_exchange.specs.Wishes.{SaysOffer}
+use Rattle.rtp_media_exchange.specs.Requests.{SaysOffer}
 use Rattle.rtp_media_exchange.specs.declared.ExchangeError.{ExchangeError}
 use Rattle.rtp_media_sections.specs.Agreement.{Agreed, agreed_map_of, agreed_row_of, own_repairs_of, remote_repairs_of}
 use Rattle.rtp_media_sections.specs.Sections.{Wanted}

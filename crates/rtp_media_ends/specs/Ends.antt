@@ -25,7 +25,8 @@ use Rattle.rtp_media_ends.specs.declared.errors.OpenError.TheVariants.{NoSection
 use Rattle.rtp_media_ends.specs.declared.errors.OpenError.TheVariants.{WrongDirection, SsrcNotNamed}
 use Rattle.rtp_media_ends.specs.declared.errors.OpenError.TheVariants.{AlreadyOpen}
 use Rattle.rtp_media_stream_table.specs.Streams.{is_nth_receiver, is_nth_sender, no_row_format, no_types, nth_receiver}
-use Rattle.rtp_media_stream_table.specs.Streams.{nth_sender, receives_as, sends_as, set_closed, set_receiver, set_sender}
+use Rattle.rtp_media_stream_table.specs.Streams.{nth_sender, receives_as, sends_as, set_closed, set_receiver}
+use Rattle.rtp_media_stream_table.specs.Streams.{set_sender}
 
 -- What an end keeps: its exchanges, and its streams of both directions by number.
 pub record EndState : Type 0 where

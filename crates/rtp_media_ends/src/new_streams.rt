@@ -6,7 +6,7 @@ ghost use Rattle.std.specs.List.{list_any};
 ghost use Rattle.std.specs.Option.{option_map};
 ghost use Rattle.payload_core_audio.specs.RedHistory.{AreDistances};
 ghost use Rattle.rtp_media_sections.specs.Agreement.{agreed_map_of};
-ghost use Rattle.payload_core_buffer.specs.Buffered.{holding_of, may_hold};
+ghost use Rattle.payload_core_buffer.specs.Buffered.{holding_of, is_valid_capacity};
 ghost use Rattle.rtp_media_ends.specs.Ends.{agreed_red, end_of, is_carried, new_receiver, new_sender};
 ghost use Rattle.rtp_media_stream_table.specs.Streams.{receives_as};
 ghost use Rattle.rtp_media_ends.specs.Ends.{refusal_of_open_receiver, refusal_of_open_sender};
@@ -81,7 +81,7 @@ pub fn new_receiver(
     hold_back: usize,
     held: usize,
 ) -> Result<ReceivingStream, OpenError>
-    requires { may_hold held ≡ true }
+    requires { is_valid_capacity held ≡ true }
     ensures stream { IfOk result (λ r. r ≡ new_receiver (end_of exchange.now streams.now) mid ssrc pt
         (holding_of hold_back held)) }
     ensures apart { IfOk result (λ r. list_any (receives_as r.ssrc r.types) streams.now ≡ false) }
@@ -111,7 +111,7 @@ pub fn new_unsignalled(
     hold_back: usize,
     held: usize,
 ) -> Result<ReceivingStream, OpenError>
-    requires { may_hold held ≡ true }
+    requires { is_valid_capacity held ≡ true }
     ensures stream { IfOk result (λ r. r ≡ new_receiver (end_of exchange.now streams.now) mid ssrc pt
         (holding_of hold_back held)) }
     ensures apart { IfOk result (λ r. list_any (receives_as r.ssrc r.types) streams.now ≡ false) }
@@ -145,7 +145,7 @@ fn receiver_of(
     held: usize,
 ) -> ReceivingStream
     requires carried { is_carried row.now ≡ true }
-    requires held { may_hold held ≡ true }
+    requires held { is_valid_capacity held ≡ true }
     ensures { result ≡ opened_receiver ssrc types exts (row_format_of row.now) (holding_of hold_back held) }
 {
     let format = row_format_of(row);

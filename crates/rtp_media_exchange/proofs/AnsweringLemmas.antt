@@ -22,7 +22,7 @@ use Rattle.rtp_media_exchange.proofs.Agreeing.{answered_agrees}
 use Rattle.rtp_media_exchange.proofs.Keeping.{rounds_kept}
 use Rattle.rtp_media_exchange.proofs.Printing.{answer_corresponds, answer_says, as_many, as_many_read}
 use Rattle.rtp_media_exchange.proofs.Printing.{same_agreement}
-use Rattle.rtp_media_exchange.proofs.Wished.{are_answers}
+use Rattle.rtp_media_exchange.proofs.Requested.{are_answers}
 
 -- the text of the sections of an answer
 pub answer_text : (x : Exchanged) (rows : List Row) (wanted : List Wanted) (offer : List Section) (session : Session)

@@ -5,4 +5,4 @@ pub mod MutualLemmas
 pub mod OneAgreement
 pub mod Printing
 pub mod Refusing
-pub mod Wished
+pub mod Requested

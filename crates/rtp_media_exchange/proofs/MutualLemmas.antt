@@ -5,7 +5,7 @@ use Rattle.std.specs.Str.{bytes_eq}
 use Rattle.rtp_media_exchange.specs.Exchanges.{Exchanged, accepted_agreement, answered_agreement}
 use Rattle.rtp_media_exchange.specs.Mutual.{AreMutual, ExchangesAreMutual, HaveExchanged, IsMutual, RepairsAreMutual}
 use Rattle.rtp_media_exchange.specs.Mutual.{wanted_of}
-use Rattle.rtp_media_exchange.specs.Wishes.{AreAnswers, AreOffers, IsAnswerOf, IsOfferOf}
+use Rattle.rtp_media_exchange.specs.Requests.{AreAnswers, AreOffers, IsAnswerOf, IsOfferOf}
 use Rattle.rtp_media_exchange.proofs.OneAgreement.{said_once}
 use Rattle.rtp_media_sections.specs.Agreement.{Agreed, agreed_by_accept, agreed_by_answer, own_repairs_in}
 use Rattle.rtp_media_sections.specs.Agreement.{remote_repairs_in, said_of, section_of}
@@ -41,19 +41,19 @@ twice true true = refl
 twice true false = refl
 twice false q = refl
 
-answer_sends : (offered wish dir : Direction) → dir ≡ answered_direction offered wish
+answer_sends : (offered request dir : Direction) → dir ≡ answered_direction offered request
     → sends dir ≡ (sends dir && receives offered)
-answer_sends offered wish dir e =
-    let is : sends dir ≡ (sends wish && receives offered) =
-    ap sends e ∙ flow_sends (sends wish && receives offered) (receives wish && sends offered) in
-    is ∙ twice (sends wish) (receives offered) ∙ ap (λ b. b && receives offered) (sym is)
+answer_sends offered request dir e =
+    let is : sends dir ≡ (sends request && receives offered) =
+    ap sends e ∙ flow_sends (sends request && receives offered) (receives request && sends offered) in
+    is ∙ twice (sends request) (receives offered) ∙ ap (λ b. b && receives offered) (sym is)
 
-answer_receives : (offered wish dir : Direction) → dir ≡ answered_direction offered wish
+answer_receives : (offered request dir : Direction) → dir ≡ answered_direction offered request
     → receives dir ≡ (receives dir && sends offered)
-answer_receives offered wish dir e =
-    let is : receives dir ≡ (receives wish && sends offered) =
-    ap receives e ∙ flow_receives (sends wish && receives offered) (receives wish && sends offered) in
-    is ∙ twice (receives wish) (sends offered) ∙ ap (λ b. b && sends offered) (sym is)
+answer_receives offered request dir e =
+    let is : receives dir ≡ (receives request && sends offered) =
+    ap receives e ∙ flow_receives (sends request && receives offered) (receives request && sends offered) in
+    is ∙ twice (receives request) (sends offered) ∙ ap (λ b. b && sends offered) (sym is)
 
 -- one section
 one_mutual : (o s : Section) (wx wy : Wanted) → IsOfferOf o wx → IsAnswerOf s wy o

@@ -5,4 +5,4 @@ pub mod Offers
 pub mod Reading
 pub mod Refusals
 pub mod Says
-pub mod Wishes
+pub mod Requests

@@ -3,7 +3,7 @@ use Rattle.std.specs.Prelude.{◌≡◌, ◌&&◌, ℕ, List, find, Option, Some
 use Rattle.rtp_media_exchange.specs.Exchanges.{Exchanged}
 use Rattle.rtp_media_exchange.specs.Offers.{Accepts, Answers}
 use Rattle.rtp_media_exchange.specs.Says.{SaysSections}
-use Rattle.rtp_media_exchange.specs.Wishes.{SaysOffer}
+use Rattle.rtp_media_exchange.specs.Requests.{SaysOffer}
 use Rattle.rtp_media_sections.specs.Agreement.{Agreed, is_named, own_repairs_of, remote_repairs_of, said_of, section_of}
 use Rattle.rtp_media_sections.specs.Answered.{answered_direction}
 use Rattle.rtp_media_sections.specs.Lines.{repairs_of, ssrcs_of}
@@ -21,19 +21,19 @@ pub record StandsBy (own other : Section) (a : Agreed) : Type 0 where
   pub own_repairs : a.own_repairs ≡ repairs_of own
   pub remote_repairs : a.remote_repairs ≡ repairs_of other
 
--- A section that was offered and answered: each text states its end's wish (the answer's as far as the offer allows),
--- and each end agreed on what these two texts say.
-pub record IsMutual (offered answered : Section) (wish_x wish_y : Wanted) (x y : Agreed) : Type 0 where
-  pub offered_is : offered.dir ≡ wish_x.dir
-  pub answered_is : answered.dir ≡ answered_direction offered.dir wish_y.dir
+-- A section that was offered and answered: each text states its end's request (the answer's as far as the offer
+-- allows), and each end agreed on what these two texts say.
+pub record IsMutual (offered answered : Section) (request_x request_y : Wanted) (x y : Agreed) : Type 0 where
+  pub offered_is : offered.dir ≡ request_x.dir
+  pub answered_is : answered.dir ≡ answered_direction offered.dir request_y.dir
   pub offering : StandsBy offered answered x
   pub answering : StandsBy answered offered y
 
 -- The sections with one mid; or none.
 abbrev pub AreMutual : Option Section → Option Section → Option Wanted → Option Wanted → Option Agreed → Option Agreed
     → Type 0
-AreMutual (Some offered) (Some answered) (Some wish_x) (Some wish_y) (Some x) (Some y) =
-    IsMutual offered answered wish_x wish_y x y
+AreMutual (Some offered) (Some answered) (Some request_x) (Some request_y) (Some x) (Some y) =
+    IsMutual offered answered request_x request_y x y
 AreMutual None None None None None None = Unit {0}
 AreMutual _ _ _ _ _ _ = ⊥
 

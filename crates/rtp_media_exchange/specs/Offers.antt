@@ -10,7 +10,7 @@ use Rattle.sdp_formats_data.specs.declared.session.SessionAttribute.{SessionAttr
 use Rattle.sdp_formats_data.specs.declared.session.SessionAttribute.TheVariants.{Group}
 use Rattle.rtp_media_exchange.specs.Exchanges.{Exchanged, accepted_agreement, answered_agreement, with_agreement}
 use Rattle.rtp_media_exchange.specs.Says.{SaysSections}
-use Rattle.rtp_media_exchange.specs.Wishes.{AreAnswers}
+use Rattle.rtp_media_exchange.specs.Requests.{AreAnswers}
 use Rattle.rtp_media_sections.specs.PrintedSections.{as_read}
 use Rattle.rtp_media_sections.specs.Answered.{answered_section}
 use Rattle.rtp_media_sections.specs.Lines.{line_of, remote_of}

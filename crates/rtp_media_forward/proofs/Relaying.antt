@@ -396,7 +396,8 @@ pub keeps : (out : ℕ) (p : Part) (parts : List Part)
     → (kept (pieces_from out (p ∷ parts)) ≡ pieces_from out (p ∷ parts))
     ⊎ (kept (pieces_from out (p ∷ parts)) ≡ pieces_from (out + count_in p) parts)
 keeps out p parts = by (nat_lt most_pieces (length (pieces_from out (p ∷ parts)))) where
-  by : (b : Bool) → ((if b then drop 1 (pieces_from out (p ∷ parts)) else pieces_from out (p ∷ parts)) ≡ pieces_from out (p ∷ parts)) ⊎ ((if b then drop 1 (pieces_from out (p ∷ parts)) else pieces_from out (p ∷ parts))
+  by : (b : Bool) → ((if b then drop 1 (pieces_from out (p ∷ parts)) else pieces_from out (p ∷ parts))
+      ≡ pieces_from out (p ∷ parts)) ⊎ ((if b then drop 1 (pieces_from out (p ∷ parts)) else pieces_from out (p ∷ parts))
       ≡ pieces_from (out + count_in p) parts)
   by true = inr refl
   by false = inl refl

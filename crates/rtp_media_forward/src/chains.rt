@@ -16,8 +16,8 @@ ghost use Rattle.rtp_media_forward.specs.Relayed.{AreRead, Part, count_in, count
 
 /// Relayed samples are samples again. A part of them is sent on as the parts that they come from, with both shifts and
 /// both changes of values (`again`), and is read as they are (`read`, `count`); so any number of forwarders one after
-/// the other is one (`links`), and a receiver after the last of them answers a legal selection of the first parts' units
-/// (`legal`), and under a tame schedule exactly these (`exact`).
+/// the other is one (`links`), and a receiver after the last of them answers a legal selection of the first parts'
+/// units (`legal`), and under a tame schedule exactly these (`exact`).
 pub fn chain_laws()
     ensures again { (own values : ExtensionValues → ExtensionValues) (parts : List Part) (p : Part) →
         p.samples ≡ relayed values parts →

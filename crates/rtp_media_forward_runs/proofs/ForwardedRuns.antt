@@ -103,7 +103,8 @@ pub contents-are : (s : Sending) (own : ExtensionValues → ExtensionValues) (pa
     → map (content_in s) (payloads_of (relayed own parts)) ≡ datagrams (relayed (values_by s own) parts)
 contents-are s own [] = refl
 contents-are s own (p ∷ ps) =
-    ap (map (content_in s)) (flat_map-append (λ (x : SentSample). all_outgoing x.packets x.time x.values) (relayed_samples own p)
+    ap (map (content_in s)) (flat_map-append (λ (x : SentSample). all_outgoing x.packets x.time x.values)
+    (relayed_samples own p)
     (relayed own ps))
     ∙ map-on (content_in s) (payloads_of (relayed_samples own p)) (payloads_of (relayed own ps))
     ∙ ap₂ (λ (xs ys : List Content). xs ++ ys) (samples-are s own p.shift p.samples) (contents-are s own ps)

@@ -45,9 +45,11 @@ module _ (law : KeepCodecLawInForms) (reached : FirstIsReached) where
 
   pub sends-opus-one : (h : Hop) (x : Sample) → CarriesOpus h → FitsPacket h x → SendsOne opus_form plain_format h x
   sends-opus-one h x opus fits = record {
-    from_zero = (exchanged.plain law reached h.answer h.sender h.receiver h.mid h.ssrc h.pt h.params [] opus.opened).next
+    from_zero = (exchanged.plain law reached h.answer h.sender h.receiver h.mid h.ssrc h.pt h.params []
+        opus.opened).next
         ∙ opus.first;
-    sent = sent-one (sender_over h) x (is-opus law reached h x opus fits) fits.some (in-packet law reached h x opus fits);
+    sent = sent-one (sender_over h) x (is-opus law reached h x opus fits) fits.some
+        (in-packet law reached h x opus fits);
     carries = carries-one law reached h x opus fits;
     format_is = opus-format (sender_over h).row (is-opus law reached h x opus fits);
     some = fits.some;

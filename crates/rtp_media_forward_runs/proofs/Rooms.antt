@@ -9,7 +9,8 @@ use Rattle.h26x_payload.specs.Dispatch.{FirstIsReached, KeepCodecLawInForms}
 use Rattle.payload_core_base.specs.Format.{Format}
 use Rattle.rtp_wire.specs.declared.values.ExtensionValues.{ExtensionValues}
 use Rattle.rtp_media_schedules.specs.Hearing as hearing
-use Rattle.rtp_media_schedules.specs.Hearing.{Content, EndsSilent, Stream, content_of, fresh, heard, number_at, packet_of}
+use Rattle.rtp_media_schedules.specs.Hearing.{Content, EndsSilent, Stream, content_of, fresh, heard, number_at}
+use Rattle.rtp_media_schedules.specs.Hearing.{packet_of}
 use Rattle.rtp_media_schedules.specs.Hearing.{taken_by}
 use Rattle.rtp_media_schedules.specs.Orders.{IsTame, first_size}
 use Rattle.rtp_media_schedules.specs.Samples.{SentSample, canonical_units, datagrams, frame_sizes, packets_of}
@@ -70,7 +71,8 @@ pub record SendsOne (form : Form) (format : Format) (h : Hop) (x : Sample) : Typ
   pub values : AreValues x.values
 
 -- what is known of a codec whose streams may be opened, and of its samples
-pub record Sends (form : Form) (format : Format) (CarriesIt : Hop → Type 0) (Fits : Hop → Sample → Type 0) : Type 0 where
+pub record Sends (form : Form) (format : Format) (CarriesIt : Hop → Type 0)
+    (Fits : Hop → Sample → Type 0) : Type 0 where
   pub ones : (h : Hop) (x : Sample) → CarriesIt h → Fits h x → SendsOne form format h x
   pub opened : (h : Hop) → CarriesIt h → Carries h []
   pub format_is : (h : Hop) → CarriesIt h → format_of (sender_over h).row ≡ format
@@ -172,7 +174,8 @@ module _ (law : KeepCodecLawInForms) (reached : FirstIsReached) {form : Form} {f
   rx = length r.onward.receiver.streams
 
   pub onward-hears : Hears opened rx r.onward.holding s []
-  onward-hears = exchanged.hears law reached r.onward.answer r.onward.sender r.onward.receiver r.onward.mid r.onward.ssrc
+  onward-hears = exchanged.hears law reached r.onward.answer r.onward.sender r.onward.receiver r.onward.mid
+      r.onward.ssrc
       r.onward.pt r.onward.params [] (sends.opened r.onward is.onward) r.onward.holding
 
   s-format : format_of s.row ≡ format
@@ -210,7 +213,8 @@ module _ (law : KeepCodecLawInForms) (reached : FirstIsReached) {form : Form} {f
       )
 
   -- what leaves
-  pub datagrams-are : (relay_in r).datagrams ≡ datagram_of s 0 (one_out form r) ∷ datagram_of s 1 (other_out form r) ∷ []
+  pub datagrams-are : (relay_in r).datagrams ≡ datagram_of s 0 (one_out form r) ∷ datagram_of s 1 (other_out form r)
+      ∷ []
   datagrams-are =
       ap₂ (λ (xs ys : List SentSample). virtual_datagrams s r.own 0
       (record { source = 1; first = one.next; shift = one_shift; samples = xs }

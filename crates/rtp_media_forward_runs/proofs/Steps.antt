@@ -1,5 +1,6 @@
 -- Datagrams that leave in a run of a forwarder.
-use Rattle.std.proofs.Common.{◌≡◌, ℕ, ◌+◌, ◌-◌, ◌%◌, ◌<◌, ◌≤◌, refl, sym, ◌∙◌, ap, ap₂, arith, List, [], ◌∷◌, length, map}
+use Rattle.std.proofs.Common.{◌≡◌, ℕ, ◌+◌, ◌-◌, ◌%◌, ◌<◌, ◌≤◌, refl, sym, ◌∙◌, ap, ap₂, arith, List, [], ◌∷◌, length}
+use Rattle.std.proofs.Common.{map}
 use Rattle.std.specs.Prelude.{Option, Some, slice_index_or}
 use Rattle.payload_core_base.specs.Outgoing.{Outgoing}
 use Rattle.rtp_wire.specs.declared.values.ExtensionValues.{ExtensionValues}

@@ -1,5 +1,6 @@
 -- VP8 in a room: the stream of a hop sends a frame as one packet.
-use Rattle.std.proofs.Common.{◌≡◌, ℕ, ◌+◌, ◌-◌, ◌<◌, ◌≤◌, refl, sym, ◌∙◌, ap, ap₂, subst, arith, Bool, true, false, List}
+use Rattle.std.proofs.Common.{◌≡◌, ℕ, ◌+◌, ◌-◌, ◌<◌, ◌≤◌, refl, sym, ◌∙◌, ap, ap₂, subst, arith, Bool, true, false}
+use Rattle.std.proofs.Common.{List}
 use Rattle.std.proofs.Common.{[], ◌∷◌, length, Option, Ok}
 use Rattle.std.proofs.lemmas.Bool.Decides.{nat_tests}
 use Rattle.std.proofs.lemmas.List.Elements.{All-cons, All-nil}
@@ -19,7 +20,8 @@ use Rattle.rtp_wire.specs.declared.values.ExtensionValues.{ExtensionValues}
 use Rattle.rtp_media_schedules.specs.Samples.{SentSample, packets_of, sent_by}
 use Rattle.rtp_media_schedules.specs.SentSamples.{timed}
 use Rattle.rtp_media_streams.specs.Rows.{format_of, settings_in}
-use Rattle.rtp_media_streams.specs.Sending.{Sample, Sending, carried, opened_sender, packet_limit, samples_of, timestamp}
+use Rattle.rtp_media_streams.specs.Sending.{Sample, Sending, carried, opened_sender, packet_limit, samples_of}
+use Rattle.rtp_media_streams.specs.Sending.{timestamp}
 use Rattle.rtp_media_streams.specs.declared.row_format.RowFormat.{RowFormat}
 use Rattle.rtp_media_ends.specs.Ends.{sender_types}
 use Rattle.rtp_media_ends.specs.FullArrival.{AreSound, count_of, sent_samples}

@@ -24,8 +24,8 @@ ghost use Rattle.rtp_media_forward_runs.specs.Virtual.{numbered_datagrams, paylo
 use crate::over_hops::hops_laws;
 use rtp_media_forward::steps_law;
 
-/// A whole run of a forwarder, with its switches, and what `send_packet` makes of it: the datagrams that leave are, byte
-/// for byte, those of one sender of all parts at their numbers (`bytes`), and the receiving stream hears them so
+/// A whole run of a forwarder, with its switches, and what `send_packet` makes of it: the datagrams that leave are,
+/// byte for byte, those of one sender of all parts at their numbers (`bytes`), and the receiving stream hears them so
 /// (`heard`). Under every schedule of them that is sane by their numbers its answers are a legal selection of the
 /// parts' units (`legal`), and under a tame one exactly these (`exact`).
 pub fn steps_over_hops_law()

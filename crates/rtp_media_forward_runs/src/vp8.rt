@@ -22,10 +22,10 @@ use crate::over_steps::steps_over_hops_law;
 use crate::published::published_law;
 use h26x_payload::codec_law;
 
-/// Two publishers send a frame of VP8 in one packet each to a forwarder, which takes their datagrams (`taken`) and sends
-/// them on as those of one stream, with a switch between them (`run`, `left`). The second one is lost on its way to the
-/// subscriber and repaired, and the subscriber hands out both frames (`units`). What the laws ask of a subscriber holds
-/// (`hears`).
+/// Two publishers send a frame of VP8 in one packet each to a forwarder, which takes their datagrams (`taken`) and
+/// sends them on as those of one stream, with a switch between them (`run`, `left`). The second one is lost on its way
+/// to the subscriber and repaired, and the subscriber hands out both frames (`units`). What the laws ask of a
+/// subscriber holds (`hears`).
 pub fn vp8_over_forwarder()
     ensures taken { (h : Hop) (x : Sample) → CarriesVp8 h → FitsAfterDescriptor h x →
         let e = after_open_receiver h.receiver h.mid h.ssrc h.pt h.holding in

@@ -25,7 +25,8 @@ use Rattle.rtp_media_program.proofs.ExchangeWords.{read_accept, read_withdraw, r
 use Rattle.rtp_media_program.proofs.PlayWords.{read_play, read_queue}
 use Rattle.rtp_media_program.proofs.RelayWords.{read_relay}
 use Rattle.rtp_media_program.specs.Says.{Says, AreSendWords, AreOpenWords, AreSampleWords, mid_words, AreReceiveWords}
-use Rattle.rtp_media_program.specs.Says.{AreAskWords, AreBoundWords, ArePollWords, AreRepairWords, ask_word, bound_word, held_number}
+use Rattle.rtp_media_program.specs.Says.{AreAskWords, AreBoundWords, ArePollWords, AreRepairWords, ask_word, bound_word}
+use Rattle.rtp_media_program.specs.Says.{held_number}
 
 -- ---- what is read is there
 

@@ -34,7 +34,8 @@ answer_printed e text sections wanted answer after replies same sound may answer
       printed = printed;
     }))
 
-pub both_printed : (a b : EndState) (offered answered : List Wanted) (offer answer : List ℕ) (after_a after_b : EndState)
+pub both_printed : (a b : EndState) (offered answered : List Wanted) (offer answer : List ℕ)
+    (after_a after_b : EndState)
     (replies : List Reply) → are_sound offered ≡ true → are_sound answered ≡ true
     → Connects a b offered answered offer answer after_a after_b
     → replies ≡ reply.Text offer ∷ reply.Text answer ∷ []

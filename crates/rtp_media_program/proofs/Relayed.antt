@@ -16,7 +16,8 @@ use Rattle.rtp_media_ends.specs.Stops.{Where}
 use Rattle.rtp_media_forward.specs.Forwarding.{Forwarding, after_packet, placed}
 use Rattle.rtp_media_forward.specs.declared.forwarder.Placed.{Placed}
 use Rattle.rtp_media_program.specs.EndErrorNames.{forward_error_name}
-use Rattle.rtp_media_program.specs.Relaying.{Brought, Forwards, ForwardsAt, IsRelayStep, SendsOn, after_sending, arrival_of}
+use Rattle.rtp_media_program.specs.Relaying.{Brought, Forwards, ForwardsAt, IsRelayStep, SendsOn, after_sending}
+use Rattle.rtp_media_program.specs.Relaying.{arrival_of}
 use Rattle.rtp_media_program.specs.Relaying.{forwarder_at, with_forwarder}
 use Rattle.rtp_media_program.specs.Relaying.{outgoing_at, placed_step, sending_reply, taken_step, with_number}
 use Rattle.rtp_media_program.specs.Replies.{Prints, memory}
@@ -113,7 +114,8 @@ module _ (e : EndState) (f : Forwarding) (c : ForwardCommand) (p : Brought)
         inl (
             subst (λ (o : Option ℕ). IsRelayStep (taken_step (with_number e p) f c.stream p o) end forwarding replies)
             (sym taken)
-            (subst (λ (r : Option Placed). IsRelayStep (placed_step (with_number e p) f c.stream p number r) end forwarding
+            (subst (λ (r : Option Placed). IsRelayStep (placed_step (with_number e p) f c.stream p number r) end
+            forwarding
             replies) (sym place) step)),
       ),
     )

@@ -6,7 +6,8 @@ use Rattle.rtp_media_program.specs.declared.words.Letter.TheVariants.{A, B}
 use Rattle.rtp_media_program.specs.declared.command.Command.{Command}
 use Rattle.rtp_media_program.specs.declared.command.Command.TheVariants.{Fixed, Send, Open, Sample, Receive, Poll, Row}
 use Rattle.rtp_media_program.specs.declared.command.Command.TheVariants.{Ext, End, Offer, Answer, Accept, Withdraw}
-use Rattle.rtp_media_program.specs.declared.command.Command.TheVariants.{AskStream, BoundStream, Connect, Queue, Play, Relay, Repair}
+use Rattle.rtp_media_program.specs.declared.command.Command.TheVariants.{AskStream, BoundStream, Connect, Queue, Play}
+use Rattle.rtp_media_program.specs.declared.command.Command.TheVariants.{Relay, Repair}
 use Rattle.rtp_media_program.specs.declared.play_words.QueueCommand.{QueueCommand}
 use Rattle.rtp_media_program.specs.declared.reply.Reply.{Reply}
 use Rattle.rtp_media_program.specs.declared.reply.Reply.TheVariants as reply

@@ -7,7 +7,7 @@ use Rattle.rtp_wire.specs.Time.{Time}
 use Rattle.rtp_wire.specs.Values.{absent}
 use Rattle.rtp_wire.specs.declared.values.ExtensionValues.{ExtensionValues}
 use Rattle.payload_core_buffer.specs.Steps.{MediaUnit}
-use Rattle.payload_core_buffer.specs.Buffered.{holding_of, may_hold}
+use Rattle.payload_core_buffer.specs.Buffered.{holding_of, is_valid_capacity}
 use Rattle.rtp_media_streams.specs.Polls.{PollResult, poll_result}
 use Rattle.rtp_media_streams.specs.Sending.{sent_datagrams, after_sample, refusal_of_sample, skipped_to}
 use Rattle.rtp_media_streams.specs.Missing.{missing}
@@ -90,7 +90,7 @@ receiver_step e c None = prints (after_open_receiver e (name_of 16 c.mid) c.ssrc
 -- open E MID SSRC PT HOLDBACK [HELD]
 abbrev pub open_step : EndState → OpenCommand → EndStep
 open_step e c =
-    if may_hold c.held then receiver_step e c (refusal_of_open_receiver e (name_of 16 c.mid) c.ssrc c.pt)
+    if is_valid_capacity c.held then receiver_step e c (refusal_of_open_receiver e (name_of 16 c.mid) c.ssrc c.pt)
     else prints e reply.ErrorLine
 
 -- A command's time, at the clock rate of its stream's row.
@@ -205,7 +205,8 @@ IsStep step end replies = (end ≡ step.end) × (replies ≡ step.replies)
 abbrev pub RunsOut : EndState → Command → EndState → List Reply → Type 0
 RunsOut e (Send c) after replies =
     IsTrue (is_sound_send e c) × (after ≡ e) × (replies ≡ reply.Refused memory ∷ [])
-RunsOut e (Open c) after replies = IsTrue (may_hold c.held) × (after ≡ e) × (replies ≡ reply.Refused memory ∷ [])
+RunsOut e (Open c) after replies = IsTrue (is_valid_capacity c.held) × (after ≡ e)
+    × (replies ≡ reply.Refused memory ∷ [])
 RunsOut e (Sample c) after replies =
     IsTrue (is_sender_at e c.stream) × SenderFails e c.stream after × (replies ≡ reply.Refused memory ∷ [])
 RunsOut e (Receive c) after replies = (after ≡ e) × (replies ≡ reply.Refused memory ∷ [])

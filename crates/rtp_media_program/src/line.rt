@@ -2,7 +2,8 @@
 
 ghost use Rattle.std.specs.Prelude.{◌≡◌, IfOk};
 ghost use Rattle.rtp_media_program.specs.Misreads.{Reads};
-ghost use Rattle.rtp_media_program.specs.LineForms.{line_of, command_of, exchange_command_of, fixed_of, send_of, open_of};
+ghost use Rattle.rtp_media_program.specs.LineForms.{line_of, command_of, exchange_command_of, fixed_of, send_of};
+ghost use Rattle.rtp_media_program.specs.LineForms.{open_of};
 ghost use Rattle.rtp_media_program.specs.LineForms.{sample_of, receive_of, poll_of, repair_of, run_command_of};
 ghost use Rattle.rtp_media_program.specs.LineForms.{ask_of, bound_of, rest_of_send, stream_command_of};
 

@@ -247,8 +247,9 @@ pub fn run<R: Read, W: Write>(
     reader: &mut R,
     writer: &mut W,
 ) -> Result<Status, RunFault>
-    ensures read { IfOk result (λ status. (input : List ℕ) × (ends : Rattle.rtp_media_program.specs.ProgramState.ProgramState) ×
-        ReadsAll (R.remaining reader.old) (R.remaining reader.new) input
+    ensures read { IfOk result (λ status. (input : List ℕ)
+        × (ends : Rattle.rtp_media_program.specs.ProgramState.ProgramState)
+        × ReadsAll (R.remaining reader.old) (R.remaining reader.new) input
         × Printed AnswersCommand initial_state ends (W.contents writer.old) (W.contents writer.new) input status) }
     ensures stopped { OnErr result (IfSome (R.remaining reader.old) (λ input. WritesFront AnswersCommand initial_state
         (W.contents writer.old) (W.contents writer.new) (lines_of input))) }

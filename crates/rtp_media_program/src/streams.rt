@@ -13,7 +13,7 @@ use crate::memory_name::memory;
 use crate::owned::{Bytes, Word};
 use crate::replies::one;
 use crate::reply::Reply;
-use payload_core_buffer::{Unit, may_hold};
+use payload_core_buffer::{Unit, is_valid_capacity};
 use rtp_media_ends::{Distances, End, StreamParams};
 use rtp_media_stream_table::Received;
 use rtp_media_streams::Datagram;
@@ -82,7 +82,7 @@ pub fn open(alloc: Global, end: &mut End, command: OpenCommand) -> Result<Vec<Re
     let mid = Mid::from(command.mid.as_str());
     let pt = Pt::from(command.pt);
     let ssrc = Ssrc::from(command.ssrc);
-    if !may_hold(command.held) {
+    if !is_valid_capacity(command.held) {
         return one(alloc, Reply::ErrorLine);
     }
     match end.open_receiver(mid, ssrc, pt, command.hold_back, command.held) {

@@ -20,7 +20,7 @@ use Rattle.h26x_payload.specs.Dispatch.{FirstIsReached, KeepCodecLawInForms}
 use Rattle.rtp_wire.specs.Carried.{AreValues}
 use Rattle.rtp_media_schedules.specs.Hearing as hearing
 use Rattle.rtp_media_schedules.specs.Hearing.{EndsSilent, fresh, heard, number_at, taken_by}
-use Rattle.payload_core_buffer.specs.Buffered.{Holding, may_hold}
+use Rattle.payload_core_buffer.specs.Buffered.{Holding, is_valid_capacity}
 use Rattle.rtp_media_schedules.specs.Orders.{IsGoodPoll, IsTame, first_size}
 use Rattle.rtp_media_schedules.specs.Samples.{SentSample, frame_sizes, packets_of, sent_by}
 use Rattle.rtp_media_schedules.specs.Turns as turns
@@ -106,13 +106,13 @@ all-came : AllCame 0 1 (0 ∷ [])
 all-came zero low high = refl
 all-came (suc y) low high = absurd (omega arith)
 
-one-held : (held : ℕ) → may_hold held ≡ true → 1 ≤ held
+one-held : (held : ℕ) → is_valid_capacity held ≡ true → 1 ≤ held
 one-held held may = grind (arith, nat_tests)
 
 good-poll : (hold_back : ℕ) → IsGoodPoll 0 1 hold_back (0 ∷ []) 1
 good-poll hold_back = record { begun = refl; held_back = inr all-came }
 
-tame-one : (holding : Holding) → may_hold holding.held ≡ true
+tame-one : (holding : Holding) → is_valid_capacity holding.held ≡ true
     → IsTame 0 1 holding 1 [] 0 (1 ∷ []) (turns.Arrive 0 ∷ Ask ∷ Ask ∷ [])
 tame-one holding may = (
   record {
@@ -131,7 +131,8 @@ module _ (law : KeepCodecLawInForms) (reached : FirstIsReached) (h : Hop) (x : S
   s = sender_over h
 
   abbrev opened : Sending
-  opened = opened_sender h.ssrc (sender_types h.sender h.mid h.ssrc h.pt) (hops.map_over h) (row_over h) h.params.picture_id
+  opened = opened_sender h.ssrc (sender_types h.sender h.mid h.ssrc h.pt) (hops.map_over h)
+      (row_over h) h.params.picture_id
       h.params.for_browsers h.params.first h.params.mtu h.params.limit
 
   same : IsPlain opened s (limit_over h)

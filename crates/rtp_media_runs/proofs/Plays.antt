@@ -9,7 +9,8 @@ use Rattle.rtp_media_stream_table.specs.Arrivals.{Arrival, NoHeader, NoStream, N
 use Rattle.rtp_media_ends.specs.EndArrivals.{after_arrival}
 use Rattle.rtp_media_stream_table.specs.Arrivals.{arrival_at}
 use Rattle.rtp_media_ends.specs.Ends.{EndState, is_receiver_at, is_sender_at, sender_at, with_receiver, with_sender}
-use Rattle.rtp_media_stream_table.specs.Streams.{is_receiving, is_sending, no_receiver, nth_sender, nth_stream, sending_of}
+use Rattle.rtp_media_stream_table.specs.Streams.{is_receiving, is_sending, no_receiver, nth_sender, nth_stream}
+use Rattle.rtp_media_stream_table.specs.Streams.{sending_of}
 use Rattle.rtp_media_stream_table.specs.declared.open_stream.OpenStream.{OpenStream}
 use Rattle.rtp_media_stream_table.specs.declared.open_stream.OpenStream.TheVariants.{Closed, Receiver, Sender}
 use Rattle.rtp_media_streams.specs.Repairing.{with_repair}

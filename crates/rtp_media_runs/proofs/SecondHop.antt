@@ -70,7 +70,8 @@ module _ (law : KeepCodecLawInForms) (reached : FirstIsReached) (gives : AllGive
   again = passed_on first samples schedule
 
   abbrev opened : Hop → Sending
-  opened h = opened_sender h.ssrc (sender_types h.sender h.mid h.ssrc h.pt) (map_over h) (row_over h) h.params.picture_id
+  opened h = opened_sender h.ssrc (sender_types h.sender h.mid h.ssrc h.pt) (map_over h)
+      (row_over h) h.params.picture_id
       h.params.for_browsers h.params.first h.params.mtu h.params.limit
 
   first-plain : IsPlain (opened first) (sender_over first) limit

@@ -163,7 +163,8 @@ module _ (law : KeepCodecLawInForms) (s t : Sending) (r : Receiving) (xs : List 
 -- a stream without redundancy adds none
 plain-adds-none : (h : Hop) (p : StreamParams) → p.red ≡ None → (sender_over (opened_with h p)).redundancy ≡ None
 plain-adds-none h p none =
-    let s : Sending = opened_sender h.ssrc (sender_types h.sender h.mid h.ssrc h.pt) (map_over h) (row_over h) p.picture_id
+    let s : Sending = opened_sender h.ssrc (sender_types h.sender h.mid h.ssrc h.pt) (map_over h)
+    (row_over h) p.picture_id
     p.for_browsers p.first p.mtu p.limit in
     ap (λ (d : Option (List ℕ)). (with_distances s (agreed_red h.sender h.mid h.pt) d).redundancy) none
 
@@ -200,8 +201,10 @@ same-over law first h p q xs schedule adds to unrepaired =
       packets = b.limit_is ∙ adds.packets ∙ sym a.limit_is;
       packetizer = b.packetizer ∙ ap (first_state (row_over h)) adds.picture_id ∙ sym a.packetizer;
       none = plain-adds-none h p adds.none;
-      plain_sound = new-is-sender first h.sender h.mid h.ssrc h.pt p to.sends to.ssrc_fits to.repair_fits to.sound_params;
-      redundant_sound = new-is-sender first h.sender h.mid h.ssrc h.pt q to.sends to.ssrc_fits to.repair_fits adds.sound;
+      plain_sound = new-is-sender first h.sender h.mid h.ssrc h.pt p to.sends to.ssrc_fits to.repair_fits
+          to.sound_params;
+      redundant_sound = new-is-sender first h.sender h.mid h.ssrc h.pt q to.sends to.ssrc_fits to.repair_fits
+          adds.sound;
     } in
     let hear : Hears e n h.holding s xs =
     hears law first h.answer h.sender h.receiver h.mid h.ssrc h.pt p xs to h.holding in

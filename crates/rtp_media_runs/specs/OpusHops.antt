@@ -4,7 +4,7 @@ use Rattle.media_types.specs.declared.codec.Codec.TheVariants.{Opus}
 use Rattle.payload_core_base.specs.declared.error.PacketError.{PacketError}
 use Rattle.rtp_wire.specs.Carried.{AreValues}
 use Rattle.payload_core_buffer.specs.Steps.{MediaUnit}
-use Rattle.payload_core_buffer.specs.Buffered.{may_hold}
+use Rattle.payload_core_buffer.specs.Buffered.{is_valid_capacity}
 use Rattle.rtp_media_streams.specs.Sending.{Sample}
 use Rattle.rtp_media_runs.specs.declared.schedule.Event.{Event}
 use Rattle.rtp_media_runs.specs.declared.schedule.Event.TheVariants.{Arrive, Poll}
@@ -19,7 +19,7 @@ pub record CarriesOpus (h : Hop) : Type 0 where
   pub opened : Carries h []
   pub opus : (row_over h).codec ≡ Opus
   pub first : h.params.first ≡ 0
-  pub held : may_hold h.holding.held ≡ true
+  pub held : is_valid_capacity h.holding.held ≡ true
 
 -- A sample that fits one packet.
 pub record FitsPacket (h : Hop) (x : Sample) : Type 0 where

@@ -242,7 +242,8 @@ none-before : (h : ℕ → Option Frame) → ((j : ℕ) (g : Frame) → h j ≡ 
 none-before h ends f zero lo e j a b = cc
 none-before h ends f (suc n) lo e j a b =
     go (λ rest less. none-before h ends f n (lo + 1) rest j less b) (h lo) refl where
-      go : (lowest_of (filter_map h (range_with_len (lo + 1) n)) ≡ Some f → lo + 1 ≤ j → h j ≡ None) → (o : Option Frame)
+      go : (lowest_of (filter_map h (range_with_len (lo + 1) n)) ≡ Some f → lo + 1 ≤ j → h j ≡ None)
+          → (o : Option Frame)
           → h lo ≡ o → h j ≡ None
       go ih None here = elim (cases_lt lo j) [
         | inl less ↦ ih (rw here at e) (omega arith)
@@ -287,7 +288,8 @@ due-since cutoff hold_back ps count (Some g) f e =
           let same : g ≡ f = ap (λ (o : Option Frame). elim o [ None ↦ g | Some k ↦ k ]) e in
           record {
             lowest = e;
-            so = subst (λ (k : Frame). (is_next cutoff (number_at ps k.start) || nat_lt hold_back count) ≡ true) same so;
+            so = subst (λ (k : Frame). (is_next cutoff (number_at ps k.start) || nat_lt hold_back count) ≡ true) same
+                so;
           }
       go false so e = cc
 
@@ -327,7 +329,8 @@ module _ (format : Format) (s : Stream) (is : IsKept s) (y : ℕ) (back : reach_
       (length (complete_frames format s.held)) was (λ e. absurd (omega (arith, e))) due-so.so in
       let few : length (complete_frames format s.held) ≤ length s.held - (f.end - 1) =
       few-frames format s.held f due-so.lowest in
-      let first : number_at s.held f.start + (f.end - 1 - f.start) ≤ number_at s.held (f.start + (f.end - 1 - f.start)) =
+      let first : number_at s.held f.start + (f.end - 1 - f.start) ≤ number_at s.held
+      (f.start + (f.end - 1 - f.start)) =
       rises-by s.held f.start (f.end - 1 - f.start) is.rising (omega (arith, frame.in_range, frame.not_empty)) in
       let end : f.start + (f.end - 1 - f.start) ≡ f.end - 1 = omega (arith, frame.not_empty) in
       let rest : number_at s.held (f.end - 1) + 1023 ≤ number_at s.held (f.end - 1 + 1023) =

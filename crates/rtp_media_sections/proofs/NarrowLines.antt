@@ -142,7 +142,8 @@ kinds_narrow = (
 
 media_narrow : Gives IsNarrowLine media_attribute
 unfolding media_attribute
-media_narrow = first_of_gives IsNarrowLine media_kinds _ kinds_narrow (made_gives IsNarrowLine Unused any_text (λ x. tt))
+media_narrow = first_of_gives IsNarrowLine media_kinds _ kinds_narrow
+    (made_gives IsNarrowLine Unused any_text (λ x. tt))
 
 line_narrow : Narrow attribute_line
 line_narrow = after_gives IsNarrowLine (codes "a=") media_attribute media_narrow

@@ -11,7 +11,7 @@ use Rattle.sdp_formats_rounds.specs.Laws.{Along, Becomes, Section, rounds}
 use Rattle.sdp_formats_rounds.specs.Members.{IsEach}
 use Rattle.sdp_formats_rounds.specs.Negotiated.{negotiated, negotiated_channels}
 use Rattle.sdp_formats_rounds.specs.Ranges.{IsSized}
-use Rattle.sdp_formats_rounds.specs.Rounds.{restated, round}
+use Rattle.sdp_formats_rounds.specs.Rounds.{renegotiated, round}
 use Rattle.sdp_formats_rows.specs.Rows.{Row}
 use Rattle.sdp_formats_rows.specs.declared.spec.CodecSpec.{CodecSpec}
 use Rattle.rtp_media_sections.proofs.ListedRows.{one_of}
@@ -36,10 +36,10 @@ sized_left : (ours theirs : CodecSpec) → IsSizedSpec ours → IsNarrow theirs.
 unfolding negotiated
 sized_left ours theirs h k = (h.0, h.1, channels_left ours.codec ours.channels theirs.channels h.2 k)
 
-restated_sized : (remote : List Row) (row : Row) (o : Option Row) → best_row row.spec remote ≡ o
-    → IsEach IsNarrowRow remote → IsSized row → IsSized (restated row o)
-restated_sized remote row None is n h = h
-restated_sized remote row (Some best) is n h =
+renegotiated_sized : (remote : List Row) (row : Row) (o : Option Row) → best_row row.spec remote ≡ o
+    → IsEach IsNarrowRow remote → IsSized row → IsSized (renegotiated row o)
+renegotiated_sized remote row None is n h = h
+renegotiated_sized remote row (Some best) is n h =
     sized_left row.spec best.spec h (one_of IsNarrowRow remote best n (best_in row.spec remote best is))
 
 becomes_sized : (dictated : Bool) (remote : List Row) (row new : Row) → Becomes dictated remote row new
@@ -48,7 +48,7 @@ becomes_sized dictated remote row new b n h = at row.locked new.locked refl refl
   where
     at : (was now : Bool) → row.locked ≡ was → new.locked ≡ now → IsSized new
     at true now is e = subst IsSized (sym (b.stands is))
-        (restated_sized remote row (best_row row.spec remote) refl n h)
+        (renegotiated_sized remote row (best_row row.spec remote) refl n h)
     at false true is e =
         let t = b.locks is e in
         subst IsSizedSpec (sym t.settings)

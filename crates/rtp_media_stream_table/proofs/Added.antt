@@ -7,7 +7,8 @@ use Rattle.rtp_media_streams.specs.Receiving.{Receiving}
 use Rattle.rtp_media_streams.specs.Sending.{Sending}
 use Rattle.rtp_media_stream_table.specs.declared.open_stream.OpenStream.{OpenStream}
 use Rattle.rtp_media_stream_table.specs.declared.open_stream.OpenStream.TheVariants.{Sender, Receiver}
-use Rattle.rtp_media_stream_table.specs.Streams.{is_nth_receiver, is_nth_sender, is_receiving, is_sending, no_receiver, nth_stream}
+use Rattle.rtp_media_stream_table.specs.Streams.{is_nth_receiver, is_nth_sender, is_receiving, is_sending, no_receiver}
+use Rattle.rtp_media_stream_table.specs.Streams.{nth_stream}
 
 within : (ss : List OpenStream) (x : OpenStream) → nat_lt (length ss) (length (ss ++ x ∷ [])) ≡ true
 within ss x = let more : length (ss ++ x ∷ []) ≡ length ss + 1 = length-append ss (x ∷ []) in

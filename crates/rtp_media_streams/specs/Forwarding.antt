@@ -1,5 +1,6 @@
 -- What a sending stream answers if it shall send a packet of another stream on.
-use Rattle.std.specs.Prelude.{ℕ, ◌+◌, ◌==◌, ◌^◌, max, nat_le, nat_lt, if◌then◌else◌, length, is_some, Option, Some, None}
+use Rattle.std.specs.Prelude.{ℕ, ◌+◌, ◌==◌, ◌^◌, max, nat_le, nat_lt, if◌then◌else◌, length, is_some, Option, Some}
+use Rattle.std.specs.Prelude.{None}
 use Rattle.payload_core_base.specs.Outgoing.{Outgoing}
 use Rattle.rtp_media_streams.specs.Sending.{Sending, datagram_of}
 use Rattle.rtp_media_streams.specs.declared.errors.ForwardError.{ForwardError}

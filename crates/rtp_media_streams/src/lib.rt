@@ -18,7 +18,7 @@ pub use codecs::{depacketizer_for, packetizer_for};
 pub use datagram::Datagram;
 pub use errors::{ForwardError, PollFault, RepairError, SampleError};
 pub use laws::{datagrams_laws, redundancy_laws};
-pub use payload::{Brought, brought_by};
+pub use payload::{Brought, locate_payload};
 pub use receiver::{Arrival, Placed, ReceivingStream};
 pub use row_format::{RowFormat, rtp_rate_of};
 pub use sender::SendingStream;

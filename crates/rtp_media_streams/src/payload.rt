@@ -83,7 +83,7 @@ fn carried(
 /// # Conditions
 ///
 /// The header was read from the datagram, and is no longer than it.
-pub fn brought_by(
+pub fn locate_payload(
     ssrc: Ssrc,
     types: &PayloadTypes,
     header: &RtpHeader,

@@ -7,7 +7,7 @@ ghost use Rattle.rtp_wire.specs.Header.{header_in};
 ghost use Rattle.rtp_wire.specs.Maps.{empty_map};
 ghost use Rattle.rtp_wire.specs.Replay.{greatest_in, is_accepted, recorded_in};
 ghost use Rattle.rtp_wire.specs.Widening.{widened};
-ghost use Rattle.payload_core_buffer.specs.Buffered.{holding_of, may_hold, pushed};
+ghost use Rattle.payload_core_buffer.specs.Buffered.{holding_of, is_valid_capacity, pushed};
 ghost use Rattle.rtp_media_schedules.specs.Hearing.{content_of, packet_of};
 ghost use Rattle.payload_core_buffer.specs.Steps.{AnswersBy, as_answer};
 ghost use Rattle.rtp_media_streams.specs.Polls.{IsPolled, IsPolledSome, drain_step, found, poll_step};
@@ -20,7 +20,7 @@ mod missing;
 
 use crate::codecs::depacketizer_for;
 use crate::errors::PollFault;
-use crate::payload::brought_by;
+use crate::payload::locate_payload;
 use crate::row_format::RowFormat;
 use crate::types::PayloadTypes;
 use h26x_payload::{CodecDepacketizer, NotBoxed};
@@ -235,7 +235,7 @@ impl ReceivingStream {
         held: usize,
     ) -> Self
         requires format { has_format row.codec ≡ true }
-        requires held { may_hold held ≡ true }
+        requires held { is_valid_capacity held ≡ true }
         ensures { result ≡ opened_receiver ssrc types exts row (holding_of hold_back held) }
     {
         let depacketizer = depacketizer_for(alloc, &row);
@@ -293,7 +293,7 @@ impl ReceivingStream {
         ensures told { IfSome result (λ a. (a.time ≡ header.now.timestamp) × (a.marker ≡ header.now.marker)) }
         ensures within { IfSome result (λ a. (a.start ≤ a.end) × (a.end ≤ length datagram.now)) }
     {
-        let brought = brought_by(self.ssrc, &self.types, header, datagram)?;
+        let brought = locate_payload(self.ssrc, &self.types, header, datagram)?;
         Some(Placed {
             low: brought.number,
             time: header.timestamp,

@@ -1,7 +1,7 @@
 //! The arguments.
 
 use clap::{Arg, ArgAction, ArgMatches, Command};
-use payload_core::{MIN_HELD, may_hold};
+use payload_core::{MIN_HELD, is_valid_capacity};
 use std::alloc::{AllocError, Global};
 
 // How many complete frames wait for a missing one, if the arguments don't say it.
@@ -157,7 +157,7 @@ impl Bounds {
         let Some(held) = number_of(matches, "held", MIN_HELD) else {
             return Err("--held takes 4096 to 16384 packets");
         };
-        if !may_hold(held) {
+        if !is_valid_capacity(held) {
             return Err("--held takes 4096 to 16384 packets");
         }
         let Some(longest_gap) = number_of(matches, "longest-gap", LONGEST_GAP) else {

@@ -33,7 +33,8 @@ fn kind_of(codec: Codec, nal: &[u8]) -> Kind {
 pub(crate) struct Heads {
     /// Width and height of the pictures.
     pub(crate) size: Option<Size>,
-    /// The first sequence header of AV1, after what a decoder is told of it (AV1 codec ISO media file format binding 2.3).
+    /// The first sequence header of AV1, after what a decoder is told of it (AV1 codec ISO media file format binding
+    /// 2.3).
     pub(crate) sequence: Vec<u8>,
     /// The first parameter sets of H.264 and H.265.
     pub(crate) vps: Vec<u8>,

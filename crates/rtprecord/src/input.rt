@@ -93,8 +93,8 @@ fn datagrams_of(alloc: Global, text: &[u8], before: u64) -> anyhow::Result<Vec<H
 }
 
 impl Input {
-    /// What a file holds that begins so, and how many bytes are in front of its packets: the first format that it begins
-    /// as, and else lines of hexadecimal.
+    /// What a file holds that begins so, and how many bytes are in front of its packets: the first format that it
+    /// begins as, and else lines of hexadecimal.
     pub(crate) fn of(alloc: Global, front: &[u8]) -> anyhow::Result<(Input, usize)> {
         if is_gzip(front) {
             bail!("it is compressed by gzip: unpack it first, as by gunzip")
@@ -112,8 +112,8 @@ impl Input {
         Ok((Input { format, fragments }, len))
     }
 
-    /// Hands each datagram that is whole in a piece to the recorder, in their order; returns how many bytes of the piece
-    /// that takes. The rest comes again in front of the next piece.
+    /// Hands each datagram that is whole in a piece to the recorder, in their order; returns how many bytes of the
+    /// piece that takes. The rest comes again in front of the next piece.
     pub(crate) fn feed(
         &mut self,
         alloc: Global,

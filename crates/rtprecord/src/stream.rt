@@ -9,7 +9,7 @@ use crate::sizes::is_vp9_key;
 use crate::units::Units;
 use h26x_payload::{
     Codec, CodecDepacketizer, CodecExtra, DepacketizingBuffer, NotBoxed, PacketError, RtpMeta,
-    SeqNo, may_hold,
+    SeqNo, is_valid_capacity,
 };
 use media_files::push_superframe_index;
 use payload_core_buffer::Unit;
@@ -73,7 +73,7 @@ fn is_keyframe(extra: CodecExtra) -> bool {
 impl Stream {
     /// A stream of which nothing came; None if its codec has no payload format, or this many packets may not be held.
     pub(crate) fn new(alloc: Global, kind: StreamKind, limits: Limits) -> Option<Stream> {
-        if !may_hold(limits.held) {
+        if !is_valid_capacity(limits.held) {
             return None;
         }
         let depacketizer = kind.row.depacketizer(alloc)?;

@@ -16,9 +16,9 @@ ghost use Rattle.sdp_formats_data.specs.declared.session.SessionAttribute.{Sessi
 use crate::media::{MediaAttribute, MediaLine, RtpMap};
 use crate::session::{Sdp, Session, SessionAttribute};
 use crate::value_equality::{
-    candidate_equality_law, fingerprints_law, mid_lists_law, mids_law, msids_law, pair_lists_law,
-    restriction_ids_law, sessions_numbers_law, setups_law, simulcasts_law, source_lists_law,
-    text_lists_law, texts_law, type_lists_law, ways_law,
+    candidate_equality_law, directions_law, fingerprints_law, mid_lists_law, mids_law, msids_law,
+    pair_lists_law, restriction_ids_law, sessions_numbers_law, setups_law, simulcasts_law,
+    source_lists_law, text_lists_law, texts_law, type_lists_law,
 };
 use rtp_wire::Extension;
 use sdp_formats_grammar::Listed;
@@ -63,7 +63,7 @@ pub fn attribute_equality_law()
     texts_law();
     mids_law();
     setups_law();
-    ways_law();
+    directions_law();
     fingerprints_law();
     pair_lists_law();
     restriction_ids_law();

@@ -90,7 +90,7 @@ pub(crate) fn setups_law()
     ensures { (a b : Setup) → IsTrue (⟦<Setup as PartialEq>⟧.eq a b) ↔ (a ≡ b) }
 {}
 
-pub(crate) fn ways_law()
+pub(crate) fn directions_law()
     ensures { (a b : RidDirection) → IsTrue (⟦<RidDirection as PartialEq>⟧.eq a b) ↔ (a ≡ b) }
 {}
 

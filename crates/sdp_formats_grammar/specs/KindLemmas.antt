@@ -92,7 +92,8 @@ no_value (OneOf table ∷ kinds) name value h = no_value kinds name value h
 -- one more name
 one_more : {A : Type 0} (b : Bool) (read : List ℕ → Option A) (value : List ℕ) (later other : Option A)
     → (b ≡ true → later ≡ None)
-    → option_or (cond b (Some value) None >>= read) (option_or later other) ≡ option_or (cond b (read value) later) other
+    → option_or (cond b (Some value) None >>= read) (option_or later other)
+    ≡ option_or (cond b (read value) later) other
 one_more true read value later other h = ap (λ o. option_or (read value) (option_or o other)) (h refl)
 one_more false read value later other h = refl
 

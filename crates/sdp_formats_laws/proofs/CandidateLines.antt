@@ -11,7 +11,8 @@ use Rattle.sdp_formats_data.specs.PrintedSession.{attribute_text as session_text
 use Rattle.sdp_formats_values.specs.declared.candidate.Candidate as candidate
 use Rattle.sdp_formats_data.specs.declared.media.MediaAttribute.TheVariants.{Candidate}
 use Rattle.sdp_formats_data.specs.declared.session.SessionAttribute.TheVariants as session
-use Rattle.sdp_formats_laws.proofs.CandidatesLemmas.{candidate_body, candidate_named, candidate_read, feed, lacks_candidate}
+use Rattle.sdp_formats_laws.proofs.CandidatesLemmas.{candidate_body, candidate_named, candidate_read, feed}
+use Rattle.sdp_formats_laws.proofs.CandidatesLemmas.{lacks_candidate}
 use Rattle.sdp_formats_laws.proofs.CandidatesLemmas.{return}
 use Rattle.sdp_formats_laws.proofs.PlainKinds.{first_fits}
 use Rattle.sdp_formats_laws.proofs.Printed.{IsPrintedAs, at_text, named_by, named_line}

@@ -7,7 +7,8 @@ use Rattle.sdp_formats_rows.specs.declared.format.FormatParams.{FormatParams}
 use Rattle.sdp_formats_rows.specs.Plain.{comes_back, has_plain_others}
 use Rattle.sdp_formats_rows.specs.Same.{same, same_bool, same_flag, same_format, same_numbers}
 use Rattle.sdp_formats_laws.proofs.PlainRows.{plain_format}
-use Rattle.sdp_formats_laws.specs.PrintedParameters.{FormatsComeBack, PlainFormatsAreInRange, RowsAreAsPlainAsTheirOthers}
+use Rattle.sdp_formats_laws.specs.PrintedParameters.{FormatsComeBack, PlainFormatsAreInRange}
+use Rattle.sdp_formats_laws.specs.PrintedParameters.{RowsAreAsPlainAsTheirOthers}
 use Rattle.sdp_formats_rounds.specs.Ranges.{IsInRange, OneLevel}
 
 number_self : (n : ℕ) → (n == n) ≡ true

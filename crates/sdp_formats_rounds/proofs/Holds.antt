@@ -9,7 +9,8 @@ use Rattle.sdp_formats_rounds.specs.Best.{best_row}
 use Rattle.sdp_formats_rows.specs.Scores.{score}
 use Rattle.sdp_formats_rounds.specs.Types.{locked_types, is_locked_type}
 use Rattle.sdp_formats_rounds.specs.Turns.{and_then}
-use Rattle.sdp_formats_rounds.specs.Rounds.{standing_rows, agreed_row, agreed_rows, settled_rows, restated, open_best}
+use Rattle.sdp_formats_rounds.specs.Rounds.{standing_rows, agreed_row, agreed_rows, settled_rows, renegotiated}
+use Rattle.sdp_formats_rounds.specs.Rounds.{open_best}
 use Rattle.sdp_formats_rounds.specs.Rounds.{best_open, first_above, unless_above, round}
 use Rattle.sdp_formats_rounds.specs.Laws.{is_distinct, Along, Becomes, LockedTypesDistinct, RowsBecome, rounds, Keeps}
 use Rattle.sdp_formats_rounds.specs.Laws.{KeepsFeedback, LockedRowsKeepTypes}
@@ -17,7 +18,7 @@ use Rattle.sdp_formats_rounds.specs.Members.{IsIn}
 use Rattle.sdp_formats_rounds.proofs.Split.{split_ok, ok_same, turns_along, along_join}
 use Rattle.sdp_formats_rounds.proofs.Bests.{best_in, best_matches, fewer_none, in_filter}
 use Rattle.sdp_formats_rounds.proofs.Locks.{standing_distinct, standing_same}
-use Rattle.sdp_formats_rounds.proofs.Matches.{Way, stood, matched, left, restated_locked, way_of, agreed_distinct}
+use Rattle.sdp_formats_rounds.proofs.Matches.{Way, stood, matched, left, renegotiated_locked, way_of, agreed_distinct}
 use Rattle.sdp_formats_rounds.proofs.Settles.{Moves, moves_types, same_feedback, settled_along}
 
 pub locked_types_distinct : LockedTypesDistinct
@@ -76,9 +77,9 @@ open_is_best : (dictated : Bool) (remote now : List Row) (row best : Row)
     → best_row row.spec remote ≡ Some best
 open_is_best dictated remote now row best e all = ok_same (best_row row.spec remote) (Some best) (rw all at e)
 
-restated_feedback : (row : Row) (o : Option Row) → KeepsFeedback row (restated row o)
-restated_feedback row None = (refl, refl, refl, refl)
-restated_feedback row (Some best) = (refl, refl, refl, refl)
+renegotiated_feedback : (row : Row) (o : Option Row) → KeepsFeedback row (renegotiated row o)
+renegotiated_feedback row None = (refl, refl, refl, refl)
+renegotiated_feedback row (Some best) = (refl, refl, refl, refl)
 
 kept_on : (row mid new : Row) → KeepsFeedback row mid → KeepsFeedback mid new → KeepsFeedback row new
 kept_on row mid new a b = (b.0 ∙ a.0, b.1 ∙ a.1, b.2 ∙ a.2, b.3 ∙ a.3)
@@ -92,21 +93,21 @@ open_is_found dictated remote now row best e all is =
 becomes : (dictated : Bool) (remote now : List Row) (row mid new : Row) → Way dictated remote now row mid
     → Moves mid new → Becomes dictated remote row new
 becomes dictated remote now row mid new (stood is same) m =
-    let locked : mid.locked ≡ true = ap (λ (x : Row). x.locked) same ∙ restated_locked row
+    let locked : mid.locked ≡ true = ap (λ (x : Row). x.locked) same ∙ renegotiated_locked row
     (best_row row.spec remote) ∙ is in
-    let whole : new ≡ restated row (best_row row.spec remote) = m.kept locked ∙ same in
+    let whole : new ≡ renegotiated row (best_row row.spec remote) = m.kept locked ∙ same in
     record {
       stands = λ _. whole;
       locks = λ no _. absurd (cc);
       stays = λ no. absurd (let t : new.locked ≡ true = ap (λ (x : Row). x.locked) (m.kept locked) ∙ locked in cc);
-      unmatched = λ none. let w : new ≡ row = whole ∙ ap (restated row) none in (
+      unmatched = λ none. let w : new ≡ row = whole ∙ ap (renegotiated row) none in (
         ap (λ (x : Row). x.spec) w,
         ap (λ
             (x : Row). x.locked) w,
       );
       meets = λ best _ _. ap (λ (x : Row). x.locked) (m.kept locked) ∙ locked;
       feedback = kept_on row mid new (let P : Row → Type 0 = KeepsFeedback row in
-          subst P (sym same) (restated_feedback row (best_row row.spec remote))) m.feedback;
+          subst P (sym same) (renegotiated_feedback row (best_row row.spec remote))) m.feedback;
     }
 becomes dictated remote now row mid new (matched is best b made) m =
     let same : new ≡ mid = m.kept made.locked in
@@ -163,13 +164,13 @@ rows_become dictated remote rows after e =
     along_join (SomeWay dictated remote) Moves (Becomes dictated remote)
     (λ x y z p q. becomes dictated remote p.0 x y z p.1 q) rows a.0 after ways (settled_along rows a.0 after a.2)
 
-restated_keeps : (row : Row) (o : Option Row) → Keeps row (restated row o)
-restated_keeps row None = record { locked = λ is. is; pt = λ _. refl; resend = λ _. refl; red = λ _. refl }
-restated_keeps row (Some best) = record { locked = λ is. is; pt = λ _. refl; resend = λ _. refl; red = λ _. refl }
+renegotiated_keeps : (row : Row) (o : Option Row) → Keeps row (renegotiated row o)
+renegotiated_keeps row None = record { locked = λ is. is; pt = λ _. refl; resend = λ _. refl; red = λ _. refl }
+renegotiated_keeps row (Some best) = record { locked = λ is. is; pt = λ _. refl; resend = λ _. refl; red = λ _. refl }
 
 becomes_keeps : (dictated : Bool) (remote : List Row) (row new : Row) → Becomes dictated remote row new → Keeps row new
 becomes_keeps dictated remote row new b =
-    let k = restated_keeps row (best_row row.spec remote) in
+    let k = renegotiated_keeps row (best_row row.spec remote) in
     record {
       locked = λ is. ap (λ (x : Row). x.locked) (b.stands is) ∙ k.locked is;
       pt = λ is. ap (λ (x : Row). x.pt) (b.stands is) ∙ k.pt is;

@@ -12,7 +12,7 @@ use Rattle.sdp_formats_rounds.specs.Negotiated.{negotiated}
 use Rattle.sdp_formats_rounds.specs.Types.{locked_types}
 use Rattle.sdp_formats_rounds.specs.Turns.{and_then}
 use Rattle.sdp_formats_rounds.specs.Rounds.{none_given, given, agreed_type, agreed_resend, agreed_red, locked_as}
-use Rattle.sdp_formats_rounds.specs.Rounds.{matched_row, matched_if, open_best, restated, agreed_row, agreed_rows}
+use Rattle.sdp_formats_rounds.specs.Rounds.{matched_row, matched_if, open_best, renegotiated, agreed_row, agreed_rows}
 use Rattle.sdp_formats_rounds.specs.Laws.{KeepsFeedback, is_distinct}
 use Rattle.sdp_formats_rounds.proofs.Split.{split_ok, ok_same, turns_keep}
 use Rattle.sdp_formats_rounds.proofs.Fresh.{agreed_unclaimed, resend_unclaimed, red_unclaimed, dictated_same}
@@ -94,7 +94,7 @@ matched_made dictated before now row best new e =
 
 -- The three ways of a row: locked before, matched, left.
 pub data Way (dictated : Bool) (remote now : List Row) (row new : Row) : Type 0 where
-  stood : row.locked ≡ true → new ≡ restated row (best_row row.spec remote) → Way dictated remote now row new
+  stood : row.locked ≡ true → new ≡ renegotiated row (best_row row.spec remote) → Way dictated remote now row new
   matched : row.locked ≡ false → (best : Row) → open_best dictated remote now row ≡ Ok (Some best)
       → Made dictated now row best new → Way dictated remote now row new
   left : row.locked ≡ false → open_best dictated remote now row ≡ Ok None → new ≡ row → Way dictated remote now row new
@@ -108,25 +108,25 @@ way_of dictated remote before now row new e = at row.locked refl e
     open_at None is b f = left is b (sym (ok_same row new f))
     open_at (Some best) is b f = matched is best b (matched_made dictated before now row best new f)
 
-    at : (b : Bool) → row.locked ≡ b → (if b then Ok (restated row (best_row row.spec remote)) else and_then
+    at : (b : Bool) → row.locked ≡ b → (if b then Ok (renegotiated row (best_row row.spec remote)) else and_then
         (open_best dictated remote now row) (matched_if dictated before now row)) ≡ Ok new
         → Way dictated remote now row new
-    at true is f = stood is (sym (ok_same (restated row (best_row row.spec remote)) new f))
+    at true is f = stood is (sym (ok_same (renegotiated row (best_row row.spec remote)) new f))
     at false is f =
         let s = split_ok (open_best dictated remote now row) (matched_if dictated before now row) new f in
         open_at s.0 is s.1 s.2
 
-pub restated_locked : (row : Row) (o : Option Row) → (restated row o).locked ≡ row.locked
-restated_locked row None = refl
-restated_locked row (Some best) = refl
+pub renegotiated_locked : (row : Row) (o : Option Row) → (renegotiated row o).locked ≡ row.locked
+renegotiated_locked row None = refl
+renegotiated_locked row (Some best) = refl
 
-restated_types : (row : Row) (o : Option Row) (rest : List Row)
-    → locked_types (restated row o ∷ rest) ≡ locked_types (row ∷ rest)
+renegotiated_types : (row : Row) (o : Option Row) (rest : List Row)
+    → locked_types (renegotiated row o ∷ rest) ≡ locked_types (row ∷ rest)
 unfolding locked_types
-restated_types row None rest = refl
-restated_types row (Some best) rest = at row.locked refl
+renegotiated_types row None rest = refl
+renegotiated_types row (Some best) rest = at row.locked refl
   where
-    at : (b : Bool) → row.locked ≡ b → locked_types (restated row (Some best) ∷ rest) ≡ locked_types (row ∷ rest)
+    at : (b : Bool) → row.locked ≡ b → locked_types (renegotiated row (Some best) ∷ rest) ≡ locked_types (row ∷ rest)
     at true is = rw is refl
     at false is = rw is refl
 
@@ -136,8 +136,8 @@ keeps_distinct : (dictated : Bool) (remote done : List Row) (row : Row) (rest : 
 keeps_distinct dictated remote done row rest new (stood is same) d =
     rw (
       same,
-      locked_append done (restated row (best_row row.spec remote) ∷ rest),
-      restated_types row
+      locked_append done (renegotiated row (best_row row.spec remote) ∷ rest),
+      renegotiated_types row
           (best_row row.spec remote) rest,
       ← locked_append done (row ∷ rest),
     ) d

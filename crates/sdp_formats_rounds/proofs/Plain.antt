@@ -12,7 +12,7 @@ use Rattle.sdp_formats_rounds.specs.Best.{best_row}
 use Rattle.sdp_formats_rounds.specs.Laws.{KeepsFeedback, rounds}
 use Rattle.sdp_formats_rounds.specs.Members.{IsEach, IsIn}
 use Rattle.sdp_formats_rounds.specs.PlainLaws.{IsOfWidths, IsSoundRow, RoundsKeepWidths}
-use Rattle.sdp_formats_rounds.specs.Rounds.{agreed_row, agreed_rows, restated, round, settled_row, settled_rows}
+use Rattle.sdp_formats_rounds.specs.Rounds.{agreed_row, agreed_rows, renegotiated, round, settled_row, settled_rows}
 use Rattle.sdp_formats_rounds.specs.Rounds.{standing_rows}
 use Rattle.sdp_formats_rounds.specs.Turns.{and_then}
 use Rattle.sdp_formats_rounds.proofs.Bests.{best_in}
@@ -48,15 +48,15 @@ red_of None audio h = refl
 red_of (Some t) audio h = h t refl
 
 -- a locked row that takes what a match leaves of its settings
-restated_plain : (remote : List Row) (row : Row) (o : Option Row) → best_row row.spec remote ≡ o
-    → IsEach IsSoundRow remote → IsPlainBeside row → IsPlainBeside (restated row o)
-restated_plain remote row None is sound h = h
-restated_plain remote row (Some best) is sound h = record {
+renegotiated_plain : (remote : List Row) (row : Row) (o : Option Row) → best_row row.spec remote ≡ o
+    → IsEach IsSoundRow remote → IsPlainBeside row → IsPlainBeside (renegotiated row o)
+renegotiated_plain remote row None is sound h = h
+renegotiated_plain remote row (Some best) is sound h = record {
   spec = plain_left row.spec best.spec h.spec
       (sound_in remote best sound (best_in row.spec remote best is));
-  feedback = feedback_kept row (restated row (Some best)) (refl, refl, refl, refl) (same_codec row.spec best.spec)
+  feedback = feedback_kept row (renegotiated row (Some best)) (refl, refl, refl, refl) (same_codec row.spec best.spec)
       h.feedback;
-  red = red_kept row (restated row (Some best)) refl (same_codec row.spec best.spec) h.red;
+  red = red_kept row (renegotiated row (Some best)) refl (same_codec row.spec best.spec) h.red;
 }
 
 -- what the second turns make of a plain row
@@ -64,7 +64,7 @@ way_plain : (dictated : Bool) (remote now : List Row) (row new : Row) → Way di
     → IsEach IsSoundRow remote → IsPlainBeside row → IsPlainBeside new
 way_plain dictated remote now row new (left is b same) sound h = rw same h
 way_plain dictated remote now row new (stood is same) sound h =
-    rw same (restated_plain remote row (best_row row.spec remote) refl sound h)
+    rw same (renegotiated_plain remote row (best_row row.spec remote) refl sound h)
 way_plain dictated remote now row new (matched is best b made) sound h =
     let codec : new.spec.codec ≡ row.spec.codec
     = ap (λ (s : CodecSpec). s.codec) made.settings ∙ same_codec row.spec best.spec in

@@ -10,7 +10,7 @@ use Rattle.sdp_formats_rounds.specs.Laws.{is_among}
 use Rattle.sdp_formats_rounds.specs.Rounds.{agreed_red, agreed_resend, agreed_row, first_above, given, locked_as}
 use Rattle.sdp_formats_rounds.specs.Rounds.{matched_if}
 use Rattle.sdp_formats_rounds.specs.Rounds.{matched_row, none_given, open_best}
-use Rattle.sdp_formats_rounds.specs.Rounds.{restated, unless_above}
+use Rattle.sdp_formats_rounds.specs.Rounds.{renegotiated, unless_above}
 use Rattle.sdp_formats_rounds.specs.Turns.{and_then}
 use Rattle.sdp_formats_rounds.specs.Types.{free_type, is_claimed, is_locked_type, listed}
 use Rattle.sdp_formats_rounds.specs.Named.{Claims, free_of, red_met, with_own}
@@ -166,7 +166,7 @@ if_by d c row None = Ok row
 if_by d c row (Some best) = locked_by d c row best
 
 abbrev pub row_as : Bool → List Row → Claims → Row → Bool → Option Row → Option Row → Result Row RoundError
-row_as d remote c row locked above best = if locked then Ok (restated row (best_row row.spec remote))
+row_as d remote c row locked above best = if locked then Ok (renegotiated row (best_row row.spec remote))
     else and_then (unless_above above best) (if_by d c row)
 
 abbrev pub row_by : Bool → List Row → Claims → Row → Result Row RoundError
@@ -209,9 +209,9 @@ pub agreed_same : (d : Bool) (remote before now : List Row) (c : Claims) → See
     → agreed_row d remote before now row ≡ row_by d remote c row
 agreed_same d remote before now c s row =
     let same : matched_if d before now row ≡ if_by d c row = λ i o. if_same d before now c s row o i in
-    ap (λ r. if row.locked then Ok (restated row (best_row row.spec remote)) else and_then r
+    ap (λ r. if row.locked then Ok (renegotiated row (best_row row.spec remote)) else and_then r
     (matched_if d before now row)) (open_same d remote before now c s row)
-    ∙ ap (λ f. if row.locked then Ok (restated row (best_row row.spec remote)) else and_then
+    ∙ ap (λ f. if row.locked then Ok (renegotiated row (best_row row.spec remote)) else and_then
     (unless_above (above_met d remote row) (best_met d c remote row)) f) same
 
 pub matched_ok : (d : Bool) (remote : List Row) (c : Claims) (row new : Row) → row_by d remote c row ≡ Ok new
@@ -221,7 +221,7 @@ matched_ok d remote c row new e = at row.locked (above_met d remote row) (best_m
     at : (locked : Bool) (above best : Option Row) → row.locked ≡ locked → above_met d remote row ≡ above
         → best_met d c remote row ≡ best → row_as d remote c row locked above best ≡ Ok new
         → IsMatched d remote c row new
-    at true above best x y z is = inl (x, sym (ok_is (restated row (best_row row.spec remote)) new is))
+    at true above best x y z is = inl (x, sym (ok_is (renegotiated row (best_row row.spec remote)) new is))
     at false (Some above) best x y z is = err_ok (TypeTaken above.pt) new is
     at false None None x y z is = inr (x, y, inl (z, sym (ok_is row new is)))
     at false None (Some best) x y z is = inr (x, y, inr (best, z, locked_ok d c row best new is))
@@ -230,7 +230,7 @@ pub matched_back : (d : Bool) (remote : List Row) (c : Claims) (row new : Row) �
     → row_by d remote c row ≡ Ok new
 matched_back d remote c row new (inl (x, same)) =
     row_at d remote c row true (above_met d remote row) (best_met d c remote row) x refl refl
-    ∙ ok_ap (restated row (best_row row.spec remote)) new (sym same)
+    ∙ ok_ap (renegotiated row (best_row row.spec remote)) new (sym same)
 matched_back d remote c row new (inr (x, y, inl (z, same))) =
     row_at d remote c row false None None x y z ∙ ok_ap row new (sym same)
 matched_back d remote c row new (inr (x, y, inr (best, z, is))) =
@@ -243,7 +243,7 @@ matched_err d remote c row e is = at row.locked (above_met d remote row) (best_m
     at : (locked : Bool) (above best : Option Row) → row.locked ≡ locked → above_met d remote row ≡ above
         → best_met d c remote row ≡ best → row_as d remote c row locked above best ≡ Err e
         → MatchedRefused d remote c row e
-    at true above best x y z is = ok_err (restated row (best_row row.spec remote)) e is
+    at true above best x y z is = ok_err (renegotiated row (best_row row.spec remote)) e is
     at false (Some above) best x y z is = (x, inl (above, y, sym (err_is (TypeTaken above.pt) e is)))
     at false None None x y z is = ok_err row e is
     at false None (Some best) x y z is = (x, inr (y, (best, z, locked_err d c row best e is)))

@@ -6,7 +6,7 @@ use Rattle.std.proofs.lemmas.Grind.{common_steps, flat_map-append}
 use Rattle.sdp_formats_rows.specs.Rows.{Row}
 use Rattle.sdp_formats_rounds.specs.Best.{best_row}
 use Rattle.sdp_formats_rounds.specs.Laws.{is_among}
-use Rattle.sdp_formats_rounds.specs.Rounds.{locked_as, restated}
+use Rattle.sdp_formats_rounds.specs.Rounds.{locked_as, renegotiated}
 use Rattle.sdp_formats_rounds.specs.TypeLaws.{types_in}
 use Rattle.sdp_formats_rounds.specs.Types.{has_type, is_used, locked_types, types_of}
 use Rattle.sdp_formats_rounds.proofs.Apart.{among_append}
@@ -54,9 +54,13 @@ abbrev pub OneMet : Row → Row → Type 0
 OneMet row new = ((locked_types (new ∷ []) ≡ locked_types (row ∷ [])) × (types_in (new ∷ []) ≡ types_in (row ∷ [])))
     ⊎ ((locked_types (row ∷ []) ≡ []) × (locked_types (new ∷ []) ≡ types_in (new ∷ [])))
 
-restated_types : (row : Row) (o : Option Row) → row.locked ≡ true → OneMet row (restated row o)
-restated_types row None e = inl (refl, refl)
-restated_types row (Some best) e = inl (locked_one (restated row (Some best)) [] e ∙ sym (locked_one row [] e), refl)
+renegotiated_types : (row : Row) (o : Option Row) → row.locked ≡ true → OneMet row (renegotiated row o)
+renegotiated_types row None e = inl (refl, refl)
+renegotiated_types row (Some best) e = inl (
+  locked_one (renegotiated row (Some best)) [] e
+      ∙ sym (locked_one row [] e),
+  refl,
+)
 
 none_of : (row : Row) → row.locked ≡ false → locked_types (row ∷ []) ≡ []
 none_of row e = unlocked_one row [] e ∙ none_locked
@@ -70,7 +74,7 @@ locked_is row best pt resend red = refl
 
 one_met : (d : Bool) (remote : List Row) (c : Claims) (row new : Row) → IsMatched d remote c row new → OneMet row new
 one_met d remote c row new (inl (x, same)) =
-    subst (λ r. OneMet row r) (sym same) (restated_types row (best_row row.spec remote) x)
+    subst (λ r. OneMet row r) (sym same) (renegotiated_types row (best_row row.spec remote) x)
 one_met d remote c row new (inr (x, y, inl (z, same))) = subst (λ r. OneMet row r) (sym same) (inl (refl, refl))
 one_met d remote c row new (inr (x, y, inr (best, z, is))) =
     let l : new.locked ≡ true = ap (λ (r : Row). r.locked) is.becomes

@@ -15,7 +15,7 @@ use Rattle.sdp_formats_rounds.specs.Types.{free_type, is_claimed, is_free, prefe
 use Rattle.sdp_formats_rounds.specs.Turns.{and_then}
 use Rattle.sdp_formats_rounds.specs.Rounds.{tested, found, kept_or_free, fallback, instead_of, agreed_type}
 use Rattle.sdp_formats_rounds.specs.Rounds.{agreed_resend, red_instead_of, agreed_red, taken, none_given, given}
-use Rattle.sdp_formats_rounds.specs.Rounds.{locked_as, matched_row, matched_if, open_best, restated, agreed_row}
+use Rattle.sdp_formats_rounds.specs.Rounds.{locked_as, matched_row, matched_if, open_best, renegotiated, agreed_row}
 use Rattle.sdp_formats_rounds.specs.Rounds.{agreed_rows, moved_type, moved_red, moved_resend, moved_row, red_or_free}
 use Rattle.sdp_formats_rounds.specs.Rounds.{settled_row, settled_rows, standing_rows, round}
 use Rattle.sdp_formats_rounds.specs.TypeLaws.{TypesStaySmall}
@@ -141,9 +141,9 @@ matched_small dictated before now row best new e =
     (resend_small dictated before now (given s.0 None) row.resend best.resend r.0 r.1)
     (red_small dictated before now (given s.0 r.0) (is_audio_codec row.spec.codec) row.red best.red d.0 d.1))
 
-restated_small : (row : Row) (o : Option Row) → has_plain_types (restated row o) ≡ has_plain_types row
-restated_small row None = refl
-restated_small row (Some best) = refl
+renegotiated_small : (row : Row) (o : Option Row) → has_plain_types (renegotiated row o) ≡ has_plain_types row
+renegotiated_small row None = refl
+renegotiated_small row (Some best) = refl
 
 turned_small : (dictated : Bool) (remote before now : List Row) (row new : Row)
     → agreed_row dictated remote before now row ≡ Ok new → has_plain_types row ≡ true → has_plain_types new ≡ true
@@ -153,11 +153,11 @@ turned_small dictated remote before now row new e s = at row.locked e
     open_at None f = rw (← (ok_same row new f)) s
     open_at (Some best) f = matched_small dictated before now row best new f
 
-    at : (b : Bool) → (if b then Ok (restated row (best_row row.spec remote)) else and_then
+    at : (b : Bool) → (if b then Ok (renegotiated row (best_row row.spec remote)) else and_then
         (open_best dictated remote now row) (matched_if dictated before now row)) ≡ Ok new
         → has_plain_types new ≡ true
-    at true f = rw (← (ok_same (restated row (best_row row.spec remote)) new f))
-        (restated_small row (best_row row.spec remote) ∙ s)
+    at true f = rw (← (ok_same (renegotiated row (best_row row.spec remote)) new f))
+        (renegotiated_small row (best_row row.spec remote) ∙ s)
     at false f =
         let s = split_ok (open_best dictated remote now row) (matched_if dictated before now row) new f in
         open_at s.0 s.2

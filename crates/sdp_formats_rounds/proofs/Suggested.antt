@@ -11,7 +11,7 @@ use Rattle.sdp_formats_rounds.specs.Best.{best_row}
 use Rattle.sdp_formats_rounds.specs.Types.{has_type, is_claimed, is_locked_type, locked_types}
 use Rattle.sdp_formats_rounds.specs.Turns.{and_then, in_turn}
 use Rattle.sdp_formats_rounds.specs.Rounds.{agreed_red, agreed_resend, agreed_row, agreed_rows, agreed_type, given}
-use Rattle.sdp_formats_rounds.specs.Rounds.{instead_of, locked_as, matched_row, none_given, restated, round}
+use Rattle.sdp_formats_rounds.specs.Rounds.{instead_of, locked_as, matched_row, none_given, renegotiated, round}
 use Rattle.sdp_formats_rounds.specs.Rounds.{settled_rows, standing_rows, tested}
 use Rattle.sdp_formats_rounds.specs.Laws.{Along, SuggestedTypesTaken, TakesOver, is_among}
 use Rattle.sdp_formats_rounds.proofs.Split.{along_join, ok_same, split_ok, turns_keep}
@@ -35,7 +35,7 @@ turn_grows : (dictated : Bool) (remote done : List Row) (row : Row) (rest : List
 turn_grows dictated remote done row rest new t (stood is same) e =
     swapped_any (λ r. r.locked && has_type r t) done rest row new (at (best_row row.spec remote) same) e
   where
-    at : (o : Option Row) → new ≡ restated row o → (row.locked && has_type row t) ≡ true
+    at : (o : Option Row) → new ≡ renegotiated row o → (row.locked && has_type row t) ≡ true
         → (new.locked && has_type new t) ≡ true
     at None s h = rw s h
     at (Some best) s h = rw s h

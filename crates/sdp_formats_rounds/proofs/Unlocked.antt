@@ -16,7 +16,7 @@ use Rattle.sdp_formats_rounds.proofs.Split.{split_ok, ok_same, turns_keep}
 use Rattle.sdp_formats_rounds.proofs.Apart.{among_in, among_out, apart_out, distinct_in, distinct_out, or_none, swap}
 use Rattle.sdp_formats_rounds.proofs.FreeTypes.{free_own, free_used, moved_is, moved_red_is, moved_resend_is}
 use Rattle.sdp_formats_rounds.proofs.Locked.{distinct_three, or_left, or_right}
-use Rattle.sdp_formats_rounds.proofs.Matches.{Way, stood, matched, left, restated_locked, way_of}
+use Rattle.sdp_formats_rounds.proofs.Matches.{Way, stood, matched, left, renegotiated_locked, way_of}
 use Rattle.sdp_formats_rounds.proofs.OwnTypes.{differ, has_pt, has_red, has_resend, pt_red, pt_resend, resend_red}
 use Rattle.sdp_formats_rounds.proofs.Settles.{moves_of}
 use Rattle.sdp_formats_rounds.proofs.UnlockedTypes.{apart_append, of_locked, of_unlocked, unused_apart}
@@ -143,7 +143,7 @@ way_apart : (dictated : Bool) (remote done : List Row) (row : Row) (rest : List 
 way_apart dictated remote done row rest new (left is b same) d = rw same d
 way_apart dictated remote done row rest new (stood is same) d =
     let still : new.locked ≡ true = ap (λ (x : Row). x.locked) same
-    ∙ restated_locked row (best_row row.spec remote) ∙ is in
+    ∙ renegotiated_locked row (best_row row.spec remote) ∙ is in
     rw (apart_append done (new ∷ rest), of_locked new rest still)
     (rw (apart_append done (row ∷ rest), of_locked row rest is) at d)
 way_apart dictated remote done row rest new (matched is best b made) d =

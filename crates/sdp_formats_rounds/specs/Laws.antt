@@ -13,7 +13,7 @@ use Rattle.sdp_formats_rows.specs.Scores.{score}
 use Rattle.sdp_formats_rounds.specs.declared.error.RoundError.{RoundError}
 use Rattle.sdp_formats_rounds.specs.Types.{locked_types}
 use Rattle.sdp_formats_rounds.specs.Turns.{and_then}
-use Rattle.sdp_formats_rounds.specs.Rounds.{restated, round}
+use Rattle.sdp_formats_rounds.specs.Rounds.{renegotiated, round}
 
 -- Whether no number occurs twice.
 abbrev pub is_among : List ℕ → ℕ → Bool
@@ -55,7 +55,7 @@ pub record IsTakenFrom (dictated : Bool) (remote : List Row) (row new : Row) : T
 -- row with a remote match is locked, except AMR-WB with dictated types, whose best match may have a claimed type. Only
 -- transport-wide feedback can change.
 pub record Becomes (dictated : Bool) (remote : List Row) (row new : Row) : Type 0 where
-  pub stands : row.locked ≡ true → new ≡ restated row (best_row row.spec remote)
+  pub stands : row.locked ≡ true → new ≡ renegotiated row (best_row row.spec remote)
   pub locks : row.locked ≡ false → new.locked ≡ true → IsTakenFrom dictated remote row new
   pub stays : new.locked ≡ false → (new.spec ≡ row.spec) × (new.transport_cc ≡ row.transport_cc) × (row.locked ≡ false)
   pub unmatched : best_row row.spec remote ≡ None → (new.spec ≡ row.spec) × (new.locked ≡ row.locked)

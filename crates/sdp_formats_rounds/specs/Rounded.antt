@@ -10,7 +10,7 @@ use Rattle.sdp_formats_rounds.specs.Best.{best_row}
 use Rattle.sdp_formats_rounds.specs.declared.error.RoundError.{RoundError}
 use Rattle.sdp_formats_rounds.specs.declared.error.RoundError.TheVariants.{TypeTaken}
 use Rattle.sdp_formats_rounds.specs.Laws.{is_among}
-use Rattle.sdp_formats_rounds.specs.Rounds.{first_above, locked_as, restated, round}
+use Rattle.sdp_formats_rounds.specs.Rounds.{first_above, locked_as, renegotiated, round}
 use Rattle.sdp_formats_rounds.specs.TypeLaws.{types_in}
 use Rattle.sdp_formats_rounds.specs.Types.{listed, locked_types}
 use Rattle.sdp_formats_rounds.specs.Named.{Claims, IsAgreed, AgreedRefused, IsKept, KeptRefused, IsRed}
@@ -71,7 +71,7 @@ above_met dictated remote row = if is_choosy dictated row then first_above remot
 -- A locked row keeps everything except the settings that its match negotiates. An unlocked row is locked with the types
 -- its match gives, or stays as it is without a match.
 abbrev pub IsMatched : Bool → List Row → Claims → Row → Row → Type 0
-IsMatched dictated remote c row new = ((row.locked ≡ true) × (new ≡ restated row (best_row row.spec remote)))
+IsMatched dictated remote c row new = ((row.locked ≡ true) × (new ≡ renegotiated row (best_row row.spec remote)))
     ⊎ ((row.locked ≡ false) × (above_met dictated remote row ≡ None)
     × (((best_met dictated c remote row ≡ None) × (new ≡ row))
     ⊎ ((best : Row) × (best_met dictated c remote row ≡ Some best) × IsLocked dictated c row best new)))

@@ -133,13 +133,13 @@ open_best dictated remote now row =
     else Ok (best_row row.spec remote)
 
 -- A locked row keeps its types and takes the negotiated settings.
-abbrev pub restated : Row → Option Row → Row
-restated row None = row
-restated row (Some best) = record row { spec = negotiated row.spec best.spec }
+abbrev pub renegotiated : Row → Option Row → Row
+renegotiated row None = row
+renegotiated row (Some best) = record row { spec = negotiated row.spec best.spec }
 
 abbrev pub agreed_row : Bool → List Row → List Row → List Row → Row → Result Row RoundError
 agreed_row dictated remote before now row =
-    if row.locked then Ok (restated row (best_row row.spec remote))
+    if row.locked then Ok (renegotiated row (best_row row.spec remote))
     else and_then (open_best dictated remote now row) (matched_if dictated before now row)
 
 -- THIRD: rows left unlocked move away from types of locked rows: first the payload type, then RED, then RTX.

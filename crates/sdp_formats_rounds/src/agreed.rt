@@ -5,7 +5,7 @@ ghost use Rattle.media_types.specs.declared.codec.Codec.TheVariants.{AmrWb};
 ghost use Rattle.sdp_formats_rows.specs.Codecs.{is_codec};
 ghost use Rattle.sdp_formats_rounds.specs.Rounds.{fallback, agreed_type, agreed_resend, agreed_red};
 ghost use Rattle.sdp_formats_rounds.specs.Rounds.{locked_as, matched_row, best_open, first_above};
-ghost use Rattle.sdp_formats_rounds.specs.Rounds.{open_best, restated, agreed_row, agreed_rows};
+ghost use Rattle.sdp_formats_rounds.specs.Rounds.{open_best, renegotiated, agreed_row, agreed_rows};
 
 use crate::best::{best_row, better};
 use crate::claims::{
@@ -199,8 +199,8 @@ fn open_best(
     Ok(best_open(remote, now, row))
 }
 
-fn restated(row: &PayloadParams, best: Option<PayloadParams>) -> PayloadParams
-    ensures { result ≡ restated row.now best }
+fn renegotiated(row: &PayloadParams, best: Option<PayloadParams>) -> PayloadParams
+    ensures { result ≡ renegotiated row.now best }
 {
     match best {
         Some(best) => row.with_spec(negotiated(row.spec(), &best.spec())),
@@ -218,7 +218,7 @@ fn agreed_row(
     ensures { result ≡ agreed_row dictated remote.now before.now now.now row.now }
 {
     if row.is_locked() {
-        return Ok(restated(row, best_row(row, remote).copied()));
+        return Ok(renegotiated(row, best_row(row, remote).copied()));
     }
     match open_best(dictated, remote, now, row)? {
         Some(best) => matched_row(dictated, before, now, row, &best),

@@ -1,7 +1,8 @@
 //! Format parameters as serde writes them: by the names of their fields.
 
 ghost use Rattle.std.specs.Prelude.{OnOk};
-ghost use Rattle.sdp_formats_rows.specs.ParamsFields.{WritesEventsAndAmrWb, WritesFormat, WritesH264, WritesH265AndH266};
+ghost use Rattle.sdp_formats_rows.specs.ParamsFields.{WritesEventsAndAmrWb, WritesFormat, WritesH264};
+ghost use Rattle.sdp_formats_rows.specs.ParamsFields.{WritesH265AndH266};
 ghost use Rattle.sdp_formats_rows.specs.ParamsFields.{WritesOpus, WritesVp9AndAv1};
 
 use crate::format::FormatParams;

@@ -80,7 +80,8 @@ walk_of_each resend red start types (a ∷ attrs) =
     ap (λ fs. fold (all_after resend red) fs attrs) (map_twice types)
     ∙ walk_of_each resend red (λ pt. facts_after resend red (start pt) a) types attrs
   where
-    map_twice : (ts : List ℕ) → all_after resend red (map start ts) a ≡ map (λ pt. facts_after resend red (start pt) a) ts
+    map_twice : (ts : List ℕ) → all_after resend red (map start ts) a
+        ≡ map (λ pt. facts_after resend red (start pt) a) ts
     map_twice [] = refl
     map_twice (t ∷ ts) = ap (λ xs. facts_after resend red (start t) a ∷ xs) (map_twice ts)
 

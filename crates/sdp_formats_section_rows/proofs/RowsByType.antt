@@ -121,7 +121,8 @@ pub rows_same : (pts : List ℕ) (attrs : List MediaAttribute) (maps : List Mapp
     → flat_map (λ m. listed (row_found (map (facts_of pts attrs (types_to codec.Rtx maps) (types_to codec.Red maps))
     (media_types_in maps)) m)) maps ≡ flat_map (rows_given pts attrs maps) maps
 rows_same pts attrs maps =
-    row_of_each facts (own_type pts attrs (types_to codec.Rtx maps) (types_to codec.Red maps)) (media_types_in maps) maps
+    row_of_each facts (own_type pts attrs (types_to codec.Rtx maps) (types_to codec.Red maps))
+    (media_types_in maps) maps
     (λ p e. types_known (λ m. is_media_codec m.map.codec) maps p ∙ e)
     ∙ ap (λ f. flat_map f maps) (fun_ext (λ m.
     rows_each pts attrs (types_to codec.Rtx maps) (types_to codec.Red maps) m ∙ row_same pts attrs maps m))

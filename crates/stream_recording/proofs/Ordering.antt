@@ -23,7 +23,8 @@ use Rattle.std.proofs.lemmas.List.{append-nil}
 use Rattle.payload_core_buffer.proofs.FrameEnds.{unit-of-frame}
 use Rattle.payload_core_buffer.proofs.KeptLemmas.{rising-drop, rising-held_with}
 use Rattle.payload_core_buffer.proofs.FrameLemmas.{lowest_is}
-use Rattle.stream_recording.specs.Orders.{AreInOrder, Comes, EndLaw, IsRecordingOf, NoMore, RecordingLaw, Records, StepLaw}
+use Rattle.stream_recording.specs.Orders.{AreInOrder, Comes, EndLaw, IsRecordingOf, NoMore, RecordingLaw, Records}
+use Rattle.stream_recording.specs.Orders.{StepLaw}
 use Rattle.stream_recording.specs.Recorded.{AtEnd, Faults, HandsOut, NoneDue, Outcome, Takes}
 
 -- packets above what is done with
@@ -41,7 +42,8 @@ above-drop cutoff zero ps all = all
 above-drop cutoff (suc n) [] all = tt
 above-drop cutoff (suc n) (p ∷ ps) all = above-drop cutoff n ps all.1
 
-above-with : (cutoff : Option ℕ) (p : Packet) (ps : List Packet) → is_done cutoff p.meta.seq_no ≡ false → AreAbove cutoff ps
+above-with : (cutoff : Option ℕ) (p : Packet) (ps : List Packet) → is_done cutoff p.meta.seq_no ≡ false
+    → AreAbove cutoff ps
     → AreAbove cutoff (held_with p ps)
 above-with cutoff p [] own all = (own, tt)
 above-with cutoff p (q ∷ qs) own all = go (nat_cmp p.meta.seq_no q.meta.seq_no) (above-with cutoff p qs own all.1)
@@ -59,7 +61,8 @@ sound-pushed most s p is = go (is_done s.cutoff p.meta.seq_no) refl where
       → IsSound (pop_state (if b then s.held else limited most (held_with p s.held)) s.cutoff s.fragment)
   go true e = record { rising = is.rising; above = is.above }
   go false e = record {
-    rising = rising-drop (length (held_with p s.held) - most) (held_with p s.held) (rising-held_with p s.held is.rising);
+    rising = rising-drop (length (held_with p s.held) - most) (held_with p s.held)
+        (rising-held_with p s.held is.rising);
     above = above-drop s.cutoff (length (held_with p s.held) - most) (held_with p s.held)
         (above-with s.cutoff p s.held e is.above);
   }
@@ -117,7 +120,8 @@ weaker cutoff more [] less ordered = tt
 weaker cutoff more (Ok u ∷ os) less ordered = (less u.first ordered.0, ordered.1, ordered.2)
 weaker cutoff more (Err e ∷ os) less ordered = weaker cutoff more os less ordered
 
-done-less : (cutoff : Option ℕ) (n x : ℕ) → is_done cutoff n ≡ false → is_done (Some n) x ≡ false → is_done cutoff x ≡ false
+done-less : (cutoff : Option ℕ) (n x : ℕ) → is_done cutoff n ≡ false → is_done (Some n) x ≡ false → is_done cutoff x
+    ≡ false
 done-less None n x own more = refl
 done-less (Some c) n x own more = grind (arith, nat_tests, own, more)
 
@@ -200,7 +204,8 @@ module _ (format : Format) (hold_back : ℕ) (s t : PopState) (is : IsSound s) w
             told.0,
             told.1,
             subst (λ (c : Option ℕ). AreInOrder c os)
-                (ap (λ (x : PopState). x.cutoff) new ∙ ap (λ (n : ℕ). let c : Option ℕ = Some n in c) (sym told.2)) ordered,
+                (ap (λ (x : PopState). x.cutoff) new ∙ ap (λ (n : ℕ). let c : Option ℕ = Some n in c) (sym told.2))
+                ordered,
           ),
         )
 
@@ -281,7 +286,8 @@ went-on : {format : Format} {hold_back most : ℕ} {s m : PopState} {packets : L
     → Records format hold_back most s (packets ++ p ∷ []) (recorded ++ more) t
 went-on {format} {hold_back} {most} t p more (NoMore {s = s}) one =
     subst (λ (xs : List Outcome). Records format hold_back most s (p ∷ []) xs t) (append-nil more) (Comes one NoMore)
-went-on {format} {hold_back} {most} t p more (Comes {s = s} {p = q} {ps = ps} {os = os} {more = others} first rest) one =
+went-on {format} {hold_back} {most} t p more (Comes {s = s} {p = q} {ps = ps} {os = os} {more = others} first rest) one
+    =
     subst (λ (xs : List Outcome). Records format hold_back most s (q ∷ ps ++ p ∷ []) xs t)
     (sym (append_assoc os others more)) (Comes first (went-on t p more rest one))
 

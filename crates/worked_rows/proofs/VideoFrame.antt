@@ -1,6 +1,7 @@
 -- A frame of VP8 in two packets, of which the second comes first: the schedule is tame, and the unit is the frame.
 use Rattle.std.proofs.Common.{◌≡◌, ℕ, zero, suc, ◌+◌, ◌-◌, ◌<◌, ◌≤◌, refl, sym, ◌∙◌, ap, ap₂, subst, subst₂, arith, inl}
-use Rattle.std.proofs.Common.{Bool, true, false, ◌&&◌, true≢false, List, [], ◌∷◌, ◌++◌, length, map, take, drop, append-nil}
+use Rattle.std.proofs.Common.{Bool, true, false, ◌&&◌, true≢false, List, [], ◌∷◌, ◌++◌, length, map, take, drop}
+use Rattle.std.proofs.Common.{append-nil}
 use Rattle.std.proofs.Common.{Option, Some, None, Result, Ok, Err}
 use Rattle.std.proofs.lemmas.Bool.Decides.{nat_tests}
 use Rattle.std.proofs.lemmas.List.{length-drop}

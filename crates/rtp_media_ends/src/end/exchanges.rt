@@ -8,7 +8,7 @@ ghost use Rattle.rtp_media_exchange.specs.Refusals.{MayAccept, MayAnswer, Refuse
 ghost use Rattle.rtp_media_exchange.specs.Refusals.{RefusesNew, refusal_of_new, refusal_of_offer};
 ghost use Rattle.sdp_formats_reader.specs.Writable.{IsWritableSession};
 ghost use Rattle.rtp_media_exchange.specs.Says.{AgreesOnText};
-ghost use Rattle.rtp_media_exchange.specs.Wishes.{SaysOffer};
+ghost use Rattle.rtp_media_exchange.specs.Requests.{SaysOffer};
 ghost use Rattle.rtp_media_sections.specs.Sections.{are_sound};
 ghost use Rattle.rtp_media_ends.specs.Ends.{new_end, with_exchange};
 ghost use Rattle.rtp_media_ends.specs.Connections.{Connects, HaveExchanged, HaveOneAgreement, IsRefused};

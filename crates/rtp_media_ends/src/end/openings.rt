@@ -1,7 +1,7 @@
 //! Streams that an end opens.
 
 ghost use Rattle.std.specs.Prelude.{◌≡◌, ◌≢◌, Some, None, length, true, OnOk, OnErr, IfOk, IfErr};
-ghost use Rattle.payload_core_buffer.specs.Buffered.{holding_of, may_hold};
+ghost use Rattle.payload_core_buffer.specs.Buffered.{holding_of, is_valid_capacity};
 ghost use Rattle.rtp_media_ends.specs.Ends.{after_open_receiver, after_open_sender, agreed_red};
 ghost use Rattle.rtp_media_ends.specs.Ends.{is_receiver_at, is_sender_at, new_receiver, new_sender};
 ghost use Rattle.rtp_media_ends.specs.Ends.{refusal_of_open_receiver, refusal_of_open_sender};
@@ -58,7 +58,7 @@ impl End {
     /// lowest are dropped.
     ///
     /// # Conditions
-    /// `held` is 4,096 to 16,384, as `may_hold` says.
+    /// `held` is 4,096 to 16,384, as `is_valid_capacity` says.
     ///
     /// # Errors
     /// As [`End::open_sender`]; `SsrcNotNamed` if the section of the other end doesn't name the
@@ -72,7 +72,7 @@ impl End {
         hold_back: usize,
         held: usize,
     ) -> Result<usize, OpenError>
-        requires { may_hold held ≡ true }
+        requires { is_valid_capacity held ≡ true }
         ensures number { IfOk result (λ n. n ≡ length self.old.streams) }
         ensures opens { OnOk result (refusal_of_open_receiver self.old mid ssrc pt ≡ None) }
         ensures after { OnOk result (self.new ≡ after_open_receiver self.old mid ssrc pt (holding_of hold_back held)) }
@@ -102,7 +102,7 @@ impl End {
     /// `receive` said to be foreign, and whose header extensions say the section and the stream.
     ///
     /// # Conditions
-    /// `held` is 4,096 to 16,384, as `may_hold` says.
+    /// `held` is 4,096 to 16,384, as `is_valid_capacity` says.
     ///
     /// # Errors
     /// As [`End::open_receiver`]; `SsrcNotNamed` if the section of the other end names SSRCs, and not this one.
@@ -115,7 +115,7 @@ impl End {
         hold_back: usize,
         held: usize,
     ) -> Result<usize, OpenError>
-        requires { may_hold held ≡ true }
+        requires { is_valid_capacity held ≡ true }
         ensures number { IfOk result (λ n. n ≡ length self.old.streams) }
         ensures opens { OnOk result (refusal_of_open_unsignalled self.old mid ssrc pt ≡ None) }
         ensures after { OnOk result (self.new ≡ after_open_receiver self.old mid ssrc pt (holding_of hold_back held)) }

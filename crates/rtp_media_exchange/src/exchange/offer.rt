@@ -4,7 +4,7 @@ ghost use Rattle.std.specs.Prelude.{◌≡◌, None, Some, find, string_bytes, I
 ghost use Rattle.rtp_media_exchange.specs.Exchanges.{with_offer};
 ghost use Rattle.rtp_media_exchange.specs.Offers.{offer_of};
 ghost use Rattle.rtp_media_exchange.specs.Refusals.{Refuses, lists_none, no_row_of, not_written, refusal_of_offer};
-ghost use Rattle.rtp_media_exchange.specs.Wishes.{SaysOffer};
+ghost use Rattle.rtp_media_exchange.specs.Requests.{SaysOffer};
 ghost use Rattle.rtp_media_sections.specs.Sections.{are_sound};
 ghost use Rattle.sdp_formats_data.specs.PrintedSession.{sdp_text};
 

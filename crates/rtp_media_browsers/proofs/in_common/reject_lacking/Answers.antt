@@ -1,5 +1,5 @@
 use Rattle.std.proofs.Common.{◌∙◌}
-use Rattle.rtp_media_browsers.proofs.FewerWishes.{has_rows, rejects}
+use Rattle.rtp_media_browsers.proofs.FewerRequests.{has_rows, rejects}
 use Rattle.rtp_media_browsers.proofs.in_common.reject_lacking.Goals as goal
 
 pub returns-then-not-is_any_named-clause-none : goal.returns-then-not-is_any_named-clause-none

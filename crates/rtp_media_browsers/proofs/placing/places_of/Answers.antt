@@ -6,10 +6,10 @@ use Rattle.rtp_media_browsers.proofs.placing.places_of.Goals as goal
 
 pub loop-number-preserved : goal.loop-number-preserved
 loop-number-preserved c =
-    let got = looked_up c.args.wishes.now c.loop-number.number c.get.result c.get.ensures.lookup.0
+    let got = looked_up c.args.requests.now c.loop-number.number c.get.result c.get.ensures.lookup.0
     c.get.ensures.lookup.1 in
     let section = c.index-sections-number.result in
-    let step = places_step c.args.bundle.now c.args.wishes.now c.loop-number.number c.args.sections.now section
+    let step = places_step c.args.bundle.now c.args.requests.now c.loop-number.number c.args.sections.now section
     (omega (arith, c.loop-number-test.true)) c.index-sections-number.is in
     let here = c.in_ok-place_of.ensures
     ∙ (λ i. place_of (c.in_ok-bundle.ensures i) (got i) section) in

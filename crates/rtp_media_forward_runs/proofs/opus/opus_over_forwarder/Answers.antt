@@ -41,8 +41,10 @@ returns-clause-hears c = λ r is.
     let law = c.codec_law.ensures.codec_in_forms in
     let reached = c.codec_law.ensures.first in
     let sends = sends-opus law reached in
-    c.published_law.ensures.hears (opened law reached sends r is) (rx law reached sends r is) r.onward.holding (stream_in r) r.own 0
-    (publications r) (onward-hears law reached sends r is).receiver (onward-hears law reached sends r is).sender is.plain is.keeps
+    c.published_law.ensures.hears (opened law reached sends r is) (rx law reached sends r is) r.onward.holding
+    (stream_in r) r.own 0
+    (publications r) (onward-hears law reached sends r is).receiver
+    (onward-hears law reached sends r is).sender is.plain is.keeps
     (published law reached sends r is) (omega (arith, two law reached sends r is))
 
 pub returns-clause-units : goal.returns-clause-units
@@ -50,11 +52,13 @@ returns-clause-units c = λ r is.
     let law = c.codec_law.ensures.codec_in_forms in
     let reached = c.codec_law.ensures.first in
     let sends = sends-opus law reached in
-    let hears = c.published_law.ensures.hears (opened law reached sends r is) (rx law reached sends r is) r.onward.holding
+    let hears = c.published_law.ensures.hears (opened law reached sends r is)
+    (rx law reached sends r is) r.onward.holding
     (stream_in r) r.own 0 (publications r) (onward-hears law reached sends r is).receiver
     (onward-hears law reached sends r is).sender is.plain is.keeps (published law reached sends r is)
     (omega (arith, two law reached sends r is)) in
-    c.published_law.ensures.exact (opened law reached sends r is) (rx law reached sends r is) r.onward.holding (stream_in r) r.own 0
+    c.published_law.ensures.exact (opened law reached sends r is) (rx law reached sends r is) r.onward.holding
+    (stream_in r) r.own 0
     (publications r) (Arrive 0 ∷ Repair 1 ∷ Poll ∷ Poll ∷ []) hears tt (is-tame law reached sends r is)
     (is-silent law reached sends r is hears)
     ∙ ap (map Ok) (units-are law reached sends r is)

@@ -46,7 +46,8 @@ returns-in_default-forward c =
     let taken : taken_number (receiver_at c.args.end.now p.stream).stream p.low ≡ Some c.get-number.result =
     sym c.in-Some.ensures.answer ∙ ap (λ (n : ℕ). let o : Option ℕ = Some n in o) (sym c.get-number.ensures) in
     if_ok c.two.result
-    (λ replies printed. not-placed c.args.end.now c.args.forwarder.now c.args.command p own c.get-number.result taken _ _
+    (λ replies printed. not-placed c.args.end.now c.args.forwarder.now c.args.command p own c.get-number.result taken _
+    _
     replies.items (sym c.in_default-forward.ensures.placed) c.take_number.ensures.after
     (c.forward.ensures.after ∙ ap (λ (q : Option Placed). after_packet c.args.forwarder.now q)
     (sym c.in_default-forward.ensures.placed)) printed) c.two.ensures

@@ -14,7 +14,8 @@ returns c =
     let pts = c.args.section.now.pts in
     let attrs = c.args.section.now.attrs in
     let maps = c.args.mappings.now in
-    let said : c.in_ok-all.all.items ≡ map (facts_of pts attrs (types_to Rtx maps) (types_to Red maps)) (media_types_in maps)
+    let said : c.in_ok-all.all.items ≡ map (facts_of pts attrs (types_to Rtx maps) (types_to Red maps))
+    (media_types_in maps)
     = grind (arith, common_steps) in
     let walked : c.loop-mapping.rows.items ≡ flat_map (λ m. listed (row_found c.in_ok-all.all.items m)) maps
     = grind (arith, common_steps) in

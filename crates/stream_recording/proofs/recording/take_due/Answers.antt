@@ -1,7 +1,8 @@
 use Rattle.std.proofs.Common.{inl, refl, ◌∙◌, Ok, Some}
 use Rattle.payload_core_buffer.proofs.Stepping.{fewer}
 use Rattle.payload_core_buffer.specs.Steps.{kept_in}
-use Rattle.stream_recording.proofs.Taking.{ends-short, faults, fewer-held, hands-out, none-taken, silent, stops, whatever}
+use Rattle.stream_recording.proofs.Taking.{ends-short, faults, fewer-held, hands-out, none-taken, silent, stops}
+use Rattle.stream_recording.proofs.Taking.{whatever}
 use Rattle.stream_recording.proofs.recording.take_due.Goals as goal
 
 pub loop-buffer-init : goal.loop-buffer-init

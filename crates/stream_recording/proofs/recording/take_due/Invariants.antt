@@ -11,7 +11,8 @@ invariant-loop-buffer g l =
     record {
       format : format_of l.buffer.depacketizer ≡ format_of l.initial.buffer.depacketizer;
       holding : l.buffer.holding ≡ l.initial.buffer.holding;
-      taken : TakenSo (format_of l.initial.buffer.depacketizer) l.hold_back (kept_in (λ x. fragment_of x) l.initial.buffer)
+      taken : TakenSo (format_of l.initial.buffer.depacketizer) l.hold_back
+          (kept_in (λ x. fragment_of x) l.initial.buffer)
           (kept_in (λ x. fragment_of x) l.buffer) l.initial.recorded.items l.recorded.items;
     }
 

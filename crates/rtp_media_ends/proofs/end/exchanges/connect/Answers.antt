@@ -2,7 +2,7 @@ use Rattle.std.proofs.Common.{◌≡◌, ◌∙◌, sym, subst, arith}
 use Rattle.std.proofs.Common.{ℕ, List, ap}
 use Rattle.rtp_media_exchange.specs.Offers.{Answers}
 use Rattle.rtp_media_exchange.specs.Says.{AgreesOnText}
-use Rattle.rtp_media_exchange.specs.Wishes.{SaysOffer}
+use Rattle.rtp_media_exchange.specs.Requests.{SaysOffer}
 use Rattle.rtp_media_ends.specs.Ends.{EndState}
 use Rattle.rtp_media_ends.specs.Connections.{AtAnswer, AtAccept, offer_text}
 use Rattle.std.proofs.lemmas.Grind.{common_steps}

@@ -8,9 +8,9 @@ use Rattle.rtp_media_exchange.specs.Answering.{HasWidths}
 use Rattle.rtp_media_exchange.specs.Exchanges.{Exchanged, IsKept}
 use Rattle.rtp_media_exchange.specs.Offers.{offer_of, offered_sections}
 use Rattle.rtp_media_exchange.specs.Refusals.{lists_none, no_row_of, not_written}
-use Rattle.rtp_media_exchange.specs.Wishes.{SaysOffer}
+use Rattle.rtp_media_exchange.specs.Requests.{SaysOffer}
 use Rattle.rtp_media_exchange.proofs.Printing.{offer_says}
-use Rattle.rtp_media_exchange.proofs.Wished.{are_offers}
+use Rattle.rtp_media_exchange.proofs.Requested.{are_offers}
 use Rattle.rtp_media_exchange.proofs.exchange.Exchange.offer.Goals as goal
 
 pub returns-clause-says : goal.returns-clause-says

@@ -11,5 +11,6 @@ invariant_of-self c =
     grind (arith, common_steps) in
     let within : c.args.stream < length c.self.inside.streams.items = grind (arith, common_steps) in
     closed-sender c.self.inside.senders c.remove_types.new.self c.self.inside.receivers c.self.inside.streams.items
-    c.args.stream c.in-Sender.sender c.ssrc-ssrc.result c.types-types.result is (sym c.ssrc-ssrc.ensures) (sym c.types-types.ensures) within
+    c.args.stream c.in-Sender.sender c.ssrc-ssrc.result c.types-types.result is (sym c.ssrc-ssrc.ensures)
+    (sym c.types-types.ensures) within
     c.remove_types.ensures.others c.self.invariant
