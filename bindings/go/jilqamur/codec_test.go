@@ -131,7 +131,7 @@ func TestAFaultyLineIsTold(t *testing.T) {
 	equal(t, must[Optional[FaultyLine]](t)(FaultyLineOf("v=1\r\n")), Some(FaultyLine{1, "v=1", FaultVersion}))
 	line := must[Optional[FaultyLine]](t)(FaultyLineOf(head + "x=" + strings.Repeat("1", 100) + "\r\ny=2\r\n"))
 	equal(t, line.Value.String(), "line 5: fits nowhere: x="+strings.Repeat("1", 100))
-	equal(t, must[Optional[FaultyLine]](t)(FaultyLineOf(head + "m=audio 9 UDP/TLS/RTP/SAVPF 0\r\na=sendrecv\r\n")),
+	equal(t, must[Optional[FaultyLine]](t)(FaultyLineOf(head+"m=audio 9 UDP/TLS/RTP/SAVPF 0\r\na=sendrecv\r\n")),
 		Some(FaultyLine{5, "m=audio 9 UDP/TLS/RTP/SAVPF 0", FaultMissingMid}))
 	_, err := FaultyLineOf("v=0\xff")
 	refused(t, err, ErrNotText)

@@ -1,7 +1,9 @@
 //! A browser's call to the last line: answers each of the offers in the files that are named, and says after each which
 //! sections are agreed and which streams are open.
 
-use jilqamur::{AgreedSection, Direction, End, EndError, MIN_HELD, Reason, Setup, StreamParams, Transport, SectionRequest};
+use jilqamur::{
+    AgreedSection, Direction, End, EndError, MIN_HELD, Reason, SectionRequest, Setup, StreamParams, Transport,
+};
 use std::collections::BTreeMap;
 use std::error::Error;
 

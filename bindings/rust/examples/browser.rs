@@ -1,7 +1,7 @@
 //! Answers a browser's offer, which it reads, of audio, video and data: what the browser gets, and what its offer tells
 //! of its transport.
 
-use jilqamur::{Direction, End, EndError, Setup, Transport, SectionRequest};
+use jilqamur::{Direction, End, EndError, SectionRequest, Setup, Transport};
 use std::io::{self, Read};
 
 /// The digest of the certificate; a program has its own.

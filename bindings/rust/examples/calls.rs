@@ -3,8 +3,8 @@
 
 use jilqamur::{
     Depacketizer, Direction, End, EndError, ExtensionIds, FaultyLine, Format, ForwardedPacket, Forwarder, Header, Kind,
-    MIN_HELD, PacketInfo, Packetizer, PacketizerParams, Received, Receiver, Row, Section, Sender, SenderParams, Setup,
-    StreamParams, Transport, Unit, Values, Window, SectionRequest,
+    MIN_HELD, PacketInfo, Packetizer, PacketizerParams, Received, Receiver, Row, Section, SectionRequest, Sender,
+    SenderParams, Setup, StreamParams, Transport, Unit, Values, Window,
 };
 use std::error::Error;
 use std::fmt::Display;

@@ -185,7 +185,9 @@ impl End {
         let (sends, receives) = direction.flow();
         self.repairs(repairs)?;
         // SAFETY: the handle is open, and pointer and length are those of one slice.
-        done(unsafe { sys::jilqamur_end_request(self.0.raw(), is_accepted, sends, receives, ssrcs.as_ptr(), ssrcs.len()) })
+        done(unsafe {
+            sys::jilqamur_end_request(self.0.raw(), is_accepted, sends, receives, ssrcs.as_ptr(), ssrcs.len())
+        })
     }
 
     /// The text of the end's answer to a browser's offer, by a request for each section, in order (RFC 8829 5.3.1):

@@ -37,7 +37,7 @@ mod sys;
 mod units;
 mod values;
 
-pub use browsers::{Remote, Setup, Transport, SectionRequest};
+pub use browsers::{Remote, SectionRequest, Setup, Transport};
 pub use builder::Builder;
 pub use datagrams::Datagrams;
 pub use ends::End;
