@@ -499,11 +499,11 @@ uint32_t jilqamur_end_request(jilqamur_end *end, bool is_accepted, bool sends, b
 /* Answers a browser's offer of len bytes by the requests, which it uses up (RFC 8829 5.3.1): jilqamur_end_text fetches
  * the text of the answer, which jilqamur_end_for_browser makes one for the browser. The end never sees sections of
  * data, of port 0 or without a request, nor those that have no row in common with it (RFC 3264 6); what is taken out is
- * remembered, and so is what the offer tells of the browser's transport. JILQAMUR_NOT_TEXT, JILQAMUR_NOT_MADE without an end; else the first that holds of
- * JILQAMUR_TEXT_UNREADABLE, JILQAMUR_REST_UNREAD, JILQAMUR_MID_NOT_KEPT, JILQAMUR_MID_TWICE, JILQAMUR_SEVERAL_BUNDLES,
- * JILQAMUR_OUTSIDE_BUNDLE, JILQAMUR_NOTHING_LEFT and JILQAMUR_KEYS_ALONE; else JILQAMUR_OUT_OF_RANGE as at
- * jilqamur_end_offer, and what jilqamur_end_answer refuses; or JILQAMUR_MEMORY. End, text and what is remembered then
- * stay. */
+ * remembered, and so is what the offer tells of the browser's transport. JILQAMUR_NOT_TEXT, JILQAMUR_NOT_MADE without
+ * an end; else the first that holds of JILQAMUR_TEXT_UNREADABLE, JILQAMUR_REST_UNREAD, JILQAMUR_MID_NOT_KEPT,
+ * JILQAMUR_MID_TWICE, JILQAMUR_SEVERAL_BUNDLES, JILQAMUR_OUTSIDE_BUNDLE, JILQAMUR_NOTHING_LEFT and JILQAMUR_KEYS_ALONE;
+ * else JILQAMUR_OUT_OF_RANGE as at jilqamur_end_offer, and what jilqamur_end_answer refuses; or JILQAMUR_MEMORY. End,
+ * text and what is remembered then stay. */
 uint32_t jilqamur_end_answer_browser(jilqamur_end *end, const uint8_t *offer, size_t len);
 
 /* Takes a browser's answer of len bytes to the pending offer, and remembers what it tells of the browser's transport.
@@ -523,12 +523,13 @@ enum {
 /* Makes an offer's or an answer's text of this end, of len bytes, one for a browser, which jilqamur_end_text fetches:
  * what was taken out of the browser's offer is back in its place, rejected, and each other section has the lines of the
  * transport, whose candidates come later (RFC 8840). A section that is new in an offer has the first place that an
- * earlier exchange left with port 0, or else follows after all places (RFC 8829 5.2.2). setup is JILQAMUR_ACTPASS in an offer, and in an answer one of the
- * others, as in each answer before; is_lite says that this end answers connectivity checks alone; ufrag and password
- * are those of ICE (RFC 8839 5.4), hash and digest the fingerprint of the certificate, as sha-256 and its 32 bytes.
- * JILQAMUR_NOT_TEXT, JILQAMUR_OUT_OF_RANGE for another setup; else the first that holds of JILQAMUR_TEXT_UNREADABLE,
- * JILQAMUR_REST_UNREAD, JILQAMUR_UFRAG_NOT_FIT, JILQAMUR_PASSWORD_NOT_FIT, JILQAMUR_SETUP_NOT_FIT,
- * JILQAMUR_NOT_CORRESPONDING and JILQAMUR_NOT_WRITABLE, or JILQAMUR_MEMORY, and nothing has changed. */
+ * earlier exchange left with port 0, or else follows after all places (RFC 8829 5.2.2). setup is JILQAMUR_ACTPASS in an
+ * offer, and in an answer one of the others, as in each answer before; is_lite says that this end answers connectivity
+ * checks alone; ufrag and password are those of ICE (RFC 8839 5.4), hash and digest the fingerprint of the certificate,
+ * as sha-256 and its 32 bytes. JILQAMUR_NOT_TEXT, JILQAMUR_OUT_OF_RANGE for another setup; else the first that holds of
+ * JILQAMUR_TEXT_UNREADABLE, JILQAMUR_REST_UNREAD, JILQAMUR_UFRAG_NOT_FIT, JILQAMUR_PASSWORD_NOT_FIT,
+ * JILQAMUR_SETUP_NOT_FIT, JILQAMUR_NOT_CORRESPONDING and JILQAMUR_NOT_WRITABLE, or JILQAMUR_MEMORY, and nothing has
+ * changed. */
 uint32_t jilqamur_end_for_browser(jilqamur_end *end, const uint8_t *text, size_t len, uint8_t setup, bool is_lite,
                                   const uint8_t *ufrag, size_t ufrag_len, const uint8_t *password, size_t password_len,
                                   const uint8_t *hash, size_t hash_len, const uint8_t *digest, size_t digest_len);
@@ -774,8 +775,8 @@ uint32_t jilqamur_end_pass_to(jilqamur_end *end, size_t stream, uint64_t number)
 
 /* Tells a receiving stream that a number carries nothing for it, as one of padding alone (RFC 3550 5.1), or of another
  * payload type of its SSRC. JILQAMUR_OK if it was the next after the last that is passed, and is now passed, so that no
- * frame waits for it; JILQAMUR_NOTHING if not, and it may be told again after the next unit. JILQAMUR_NOT_MADE without an
- * end, JILQAMUR_NO_STREAM. */
+ * frame waits for it; JILQAMUR_NOTHING if not, and it may be told again after the next unit. JILQAMUR_NOT_MADE without
+ * an end, JILQAMUR_NO_STREAM. */
 uint32_t jilqamur_end_pass_empty(jilqamur_end *end, size_t stream, uint64_t number);
 
 /* Gives memory of a receiving stream back: of the packets that wait those with the highest numbers stay, whose payloads

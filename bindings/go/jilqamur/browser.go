@@ -45,9 +45,9 @@ type Remote struct {
 
 // AnswerBrowser is the text of the end's answer to a browser's offer (RFC 8829, section 5.3.1), by a request for each
 // section in order; [End.ForBrowser] makes it one for the browser. The end never sees sections of data, of port 0 or
-// without a request, nor those that have no row in common with it. It returns [ErrNotText], or the first that applies of [ErrTextUnreadable], [ErrRestUnread],
-// [ErrMidNotKept], [ErrMidTwice], [ErrSeveralBundles], [ErrOutsideBundle], [ErrNothingLeft] and [ErrKeysAlone]; else
-// what [End.Answer] returns.
+// without a request, nor those that have no row in common with it. It returns [ErrNotText], or the first that applies
+// of [ErrTextUnreadable], [ErrRestUnread], [ErrMidNotKept], [ErrMidTwice], [ErrSeveralBundles], [ErrOutsideBundle],
+// [ErrNothingLeft] and [ErrKeysAlone]; else what [End.Answer] returns.
 func (e *End) AnswerBrowser(offer string, requests ...SectionRequest) (string, error) {
 	for _, request := range requests {
 		if err := e.request(request); err != nil {

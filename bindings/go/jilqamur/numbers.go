@@ -8,9 +8,10 @@ import "unsafe"
 // mostMissing is how many numbers can be missing at most.
 const mostMissing = 1023
 
-// Missing is the missing numbers of a receiving stream, in increasing order: those after the last unit's, or, before any
-// unit, after the lowest packet that waits, that were not taken, below the greatest that was and within the replay
-// window. These are what a generic NACK may ask for (RFC 4585, section 6.2.1). It returns [ErrNoStream], or [ErrMemory].
+// Missing is the missing numbers of a receiving stream, in increasing order: those after the last unit's, or, before
+// any unit, after the lowest packet that waits, that were not taken, below the greatest that was and within the replay
+// window. These are what a generic NACK may ask for (RFC 4585, section 6.2.1). It returns [ErrNoStream], or
+// [ErrMemory].
 func (e *End) Missing(stream int) ([]uint64, error) {
 	var needed C.size_t
 	numbers := make([]uint64, mostMissing)

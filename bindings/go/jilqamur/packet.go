@@ -15,8 +15,8 @@ type PacketInfo struct {
 }
 
 // PacketInfoOf is what a packet of the codec of this name, with this payload, without padding, and marker bit says of
-// its frame. VP8 and AV1 show a key frame in its first packet, VP9 in each one, H.264, H.265 and H.266 in those that show
-// a slice of the picture. It returns [ErrOutOfRange] for a name of no codec with a payload format.
+// its frame. VP8 and AV1 show a key frame in its first packet, VP9 in each one, H.264, H.265 and H.266 in those that
+// show a slice of the picture. It returns [ErrOutOfRange] for a name of no codec with a payload format.
 func PacketInfoOf(codec string, payload []byte, marker bool) (PacketInfo, error) {
 	var told C.jilqamur_packet_info
 	name, nameSize := placeOf(codec)

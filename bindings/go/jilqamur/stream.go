@@ -67,8 +67,8 @@ func (e *End) OpenReceiver(mid string, ssrc uint32, payloadType uint8, params Re
 }
 
 // OpenUnsignalled opens a receiving stream as [End.OpenReceiver], in a section whose sender names this SSRC or no SSRC
-// at all, as one whose simulcast streams a=rid alone tells apart (RFC 8853, section 6.1): the SSRC is that of a datagram
-// that came and was foreign. It returns [ErrSSRCNotNamed] if the section names SSRCs, and not this one.
+// at all, as one whose simulcast streams a=rid alone tells apart (RFC 8853, section 6.1): the SSRC is that of a
+// datagram that came and was foreign. It returns [ErrSSRCNotNamed] if the section names SSRCs, and not this one.
 func (e *End) OpenUnsignalled(mid string, ssrc uint32, payloadType uint8, params ReceiverParams) (int, error) {
 	holdBack, held, err := params.sizes()
 	if err != nil {

@@ -13,7 +13,7 @@ one object must not overlap another one on it; objects share nothing, and may mo
 """
 
 from .codes import Code, Refused
-from .ends import (AgreedSection, Arrival, Direction, End, Remote, Section, Setup, Taken, Verdict, SectionRequest)
+from .ends import (AgreedSection, Arrival, Direction, End, Remote, Section, SectionRequest, Setup, Taken, Verdict)
 from .library import ExtensionIds, Header
 from .streams import Depacketizer, Forwarder, Packet, Packetizer, Placed, Receiver, Sender, Window
 from .values import (EXTENSIONS, MAX_HELD, MIN_HELD, Event, FaultyLine, Format, LineFault, Names, PacketInfo, Row, Unit,
@@ -24,7 +24,7 @@ __version__ = "0.9.0"
 __all__ = [
     "AgreedSection", "Arrival", "Code", "Depacketizer", "Direction", "EXTENSIONS", "End", "Event", "ExtensionIds",
     "FaultyLine", "Format", "Forwarder", "Header", "LineFault", "MAX_HELD", "MIN_HELD", "Names", "Packet", "PacketInfo",
-    "Packetizer", "Placed", "Receiver", "Refused", "Remote", "Row", "Section", "Sender", "Setup", "Taken", "Unit",
-    "Values", "Verdict", "Window", "SectionRequest", "faulty_line", "packet_info", "payload_of", "read_header", "read_values",
-    "widen", "write_header",
+    "Packetizer", "Placed", "Receiver", "Refused", "Remote", "Row", "Section", "SectionRequest", "Sender", "Setup",
+    "Taken", "Unit", "Values", "Verdict", "Window", "faulty_line", "packet_info", "payload_of", "read_header",
+    "read_values", "widen", "write_header",
 ]

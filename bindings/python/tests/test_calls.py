@@ -6,8 +6,8 @@ from pathlib import Path
 
 from jilqamur import (EXTENSIONS, Arrival, Code, Depacketizer, Direction, End, Event, ExtensionIds, FaultyLine, Format,
                       Forwarder, Header, LineFault, PacketInfo, Packetizer, Placed, Receiver, Refused, Row, Section,
-                      Sender, Setup, Taken, Values, Verdict, Window, SectionRequest, faulty_line, packet_info, payload_of,
-                      read_header, read_values, widen, write_header)
+                      SectionRequest, Sender, Setup, Taken, Values, Verdict, Window, faulty_line, packet_info,
+                      payload_of, read_header, read_values, widen, write_header)
 
 PLAIN = bytes([0x90, 0xe0, 0, 7, 0, 0, 3, 0xc0, 0, 0, 0, 44, 0xbe, 0xde, 0, 2, 0x10, 0x9e, 0x31, 97, 118, 0x50, 104, 0,
                1, 2, 3, 4])
@@ -174,7 +174,8 @@ class Ends(unittest.TestCase):
         transport = {"ufrag": "abcd", "password": "passwordpasswordpassword", "digest": bytes([0xab, 0xcd])}
         own = a.offer([Section("0", False, ssrcs=[44])])
         offer = a.for_browser(own, Setup.ACTPASS, **transport)
-        answer = b.for_browser(b.answer_browser(offer, [SectionRequest(ssrcs=[45])]), Setup.PASSIVE, **transport, is_lite=True)
+        answered = b.answer_browser(offer, [SectionRequest(ssrcs=[45])])
+        answer = b.for_browser(answered, Setup.PASSIVE, **transport, is_lite=True)
         a.accept_browser(answer)
         remote = a.remote()
         self.assertEqual((remote.ufrag, remote.password, remote.fingerprint, remote.setup, remote.is_lite),
