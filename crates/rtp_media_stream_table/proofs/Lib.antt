@@ -2,6 +2,7 @@ pub mod Added
 pub mod Indexing
 pub mod KeptOrSet
 pub mod Looked
+pub mod MadeAt
 pub mod NewReceiver
 pub mod PolledSome
 pub mod SentAt

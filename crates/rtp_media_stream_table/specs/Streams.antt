@@ -2,14 +2,18 @@ use Rattle.std.specs.Prelude.{ℕ, Bool, true, false, nat_lt, ◌&&◌, List, le
 use Rattle.std.specs.Prelude.{◌≡◌, None, slice_set, slice_index_or}
 use Rattle.rtp_wire.specs.Maps.{empty_map}
 use Rattle.media_types.specs.declared.codec.Codec.TheVariants.{Unknown}
+use Rattle.payload_core_base.specs.Outgoing.{Outgoing}
 use Rattle.payload_core_buffer.specs.Buffered.{holding_of}
 use Rattle.rtp_wire.specs.Time.{Time}
 use Rattle.rtp_wire.specs.declared.values.ExtensionValues.{ExtensionValues}
+use Rattle.rtp_media_streams.specs.PacketSteps.{PacketStep, packet_step, repair_step}
 use Rattle.rtp_media_streams.specs.SendSteps.{SendStep, send_step}
 use Rattle.rtp_media_streams.specs.Sending as sending
 use Rattle.rtp_media_streams.specs.Sending.{Sending, opened_sender}
 use Rattle.rtp_media_streams.specs.Receiving as receiving
 use Rattle.rtp_media_streams.specs.Receiving.{Receiving, opened_receiver}
+use Rattle.rtp_media_streams.specs.declared.errors.ForwardError.{ForwardError}
+use Rattle.rtp_media_streams.specs.declared.errors.RepairError.{RepairError}
 use Rattle.rtp_media_streams.specs.declared.row_format.RowFormat.{RowFormat}
 use Rattle.rtp_media_streams.specs.declared.types.PayloadTypes.{PayloadTypes}
 use Rattle.rtp_media_stream_table.specs.declared.open_stream.OpenStream.{OpenStream}
@@ -87,6 +91,22 @@ nth_send_step streams n time values bytes =
       next = set_sender streams n step.next;
       Stopped = λ after. step.Stopped (nth_sender after n) × (after ≡ set_sender streams n (nth_sender after n));
     }
+
+-- A call for one datagram at the n-th stream; the others don't change.
+abbrev pub nth_step : {E : Type 0} → List OpenStream → ℕ → PacketStep Sending E → PacketStep (List OpenStream) E
+nth_step streams n step = record {
+  before = streams;
+  answer = step.answer;
+  next = set_sender streams n step.next;
+  memory = step.memory;
+}
+
+-- The n-th stream is asked for a repair, or handed a packet to send on under a number.
+abbrev pub nth_repair_step : List OpenStream → ℕ → List ℕ → PacketStep (List OpenStream) RepairError
+nth_repair_step streams n datagram = nth_step streams n (repair_step (nth_sender streams n) datagram)
+
+abbrev pub nth_packet_step : List OpenStream → (n number : ℕ) → Outgoing → PacketStep (List OpenStream) ForwardError
+nth_packet_step streams n number o = nth_step streams n (packet_step (nth_sender streams n) number o)
 
 -- Whether the n-th of these streams is one that sends, and whether it is one that receives.
 abbrev pub is_nth_sender : List OpenStream → ℕ → Bool

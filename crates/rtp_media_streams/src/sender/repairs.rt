@@ -1,11 +1,12 @@
 //! Repairs that a sending stream makes (RFC 4588).
 
-ghost use Rattle.std.specs.Prelude.{◌≡◌, ◌≢◌, ◌<◌, ◌≤◌, Ok, Err, OnOk, OnErr, IfOk, IfErr, IfSome, length};
+ghost use Rattle.std.specs.Prelude.{◌≡◌, ◌<◌, ◌≤◌, IfOk, IfSome, length};
 ghost use Rattle.std.specs.Option.{option_map};
 ghost use Rattle.rtp_wire.specs.Header.{header_in, payload_in};
 ghost use Rattle.rtp_wire.specs.Maps.{empty_map};
 ghost use Rattle.rtp_wire.specs.Padding.{unpadded};
-ghost use Rattle.rtp_media_streams.specs.Repairing.{has_byte, own_header, repair, repair_key, with_repair};
+ghost use Rattle.rtp_media_streams.specs.PacketSteps.{MakesBy, repair_step};
+ghost use Rattle.rtp_media_streams.specs.Repairing.{has_byte, own_header, repair_key};
 
 use super::SendingStream;
 use crate::datagram::Datagram;
@@ -44,11 +45,8 @@ impl SendingStream {
     /// # Errors
     /// The first that holds of `NoRepair`, `NotOwn` and `LimitTooSmall`; or `Memory`. Nothing has then changed.
     pub fn repair(&mut self, datagram: &[u8]) -> Result<Datagram, RepairError>
-        ensures repaired { IfOk result (λ d. repair self.old datagram.now ≡ Ok d) }
+        ensures repairs { MakesBy (repair_step self.old datagram.now) self.new result }
         ensures within { IfOk result (λ d. length d ≤ self.old.limit) }
-        ensures after { OnOk result (self.new ≡ with_repair self.old) }
-        ensures refused { IfErr result (λ e. e ≢ RepairError.Memory → repair self.old datagram.now ≡ Err e) }
-        ensures unchanged { OnErr result (self.new ≡ self.old) }
     {
         let key = self.repair_key().ok_or(RepairError::NoRepair)?;
         let header = self.own_header(datagram);
