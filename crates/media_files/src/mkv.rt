@@ -207,6 +207,10 @@ pub fn mkv_file(
 ) -> Result<Vec<u8>, RecordingError>
     ensures value { IfOk result (λ v. v.items
         ≡ mkv_file duration (map track_shown tracks.now) (map block_shown blocks.now)) }
+    ensures few { OnOk result (length tracks.now < 127) }
+    ensures short { OnOk result (duration < 2 ^ 53) }
+    ensures fits { OnOk result (length (segment duration (map track_shown tracks.now) (map block_shown blocks.now))
+        < 72057594037927935) }
     ensures refused { IfErr result (λ e. e ≢ RecordingError.Memory → (e ≡ RecordingError.TooLong)
         × IsTooMuch duration (map track_shown tracks.now) (map block_shown blocks.now)) }
 {

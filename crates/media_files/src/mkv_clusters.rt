@@ -100,6 +100,10 @@ pub fn push_mkv_front(
 ) -> Result<(), RecordingError>
     ensures written { OnOk result (out.new.items ≡ out.old.items
         ++ mkv_front duration (map track_shown tracks.now) clusters_len) }
+    ensures few { OnOk result (length tracks.now < 127) }
+    ensures short { OnOk result (duration < 2 ^ 53) }
+    ensures fits { OnOk result (length (segment_front duration (map track_shown tracks.now)) + clusters_len
+        < 72057594037927935) }
     ensures refused { IfErr result (λ e. e ≢ RecordingError.Memory → (e ≡ RecordingError.TooLong)
         × ((127 ≤ length tracks.now) ⊎ (9007199254740992 ≤ duration)
         ⊎ (72057594037927935 ≤ length (segment_front duration (map track_shown tracks.now)) + clusters_len))) }

@@ -243,6 +243,7 @@ pub fn opus_file(
     packets: &[Option<&[u8]>],
 ) -> Result<Vec<u8>, RecordingError>
     ensures value { IfOk result (λ v. v.items ≡ opus_file (stream_shown stream) (map item packets.now)) }
+    ensures few { OnOk result (length packets.now ≤ 4294967293) }
     ensures refused { IfErr result (λ e. e ≢ RecordingError.Memory
         → (e ≡ RecordingError.TooLong) × IsTooMuch (map item packets.now)) }
 {

@@ -1,6 +1,6 @@
 //! The pages of an Ogg Opus file, written one by one (RFC 7845).
 
-ghost use Rattle.std.specs.Prelude.{◌≡◌, ◌≢◌, ◌*◌, ◌≤◌, ◌++◌, ◌⊎◌, [], IfErr, OnOk};
+ghost use Rattle.std.specs.Prelude.{◌≡◌, ◌≢◌, ◌*◌, ◌≤◌, ◌++◌, ◌⊎◌, [], IfErr, OnErr, OnOk};
 ghost use Rattle.media_files.specs.Opus.{IsLong, head_page, item, playing_after, sound_page, tags_page};
 ghost use Rattle.media_files.specs.OpusViews.{stream_shown};
 
@@ -61,8 +61,8 @@ impl OpusPages {
     /// long as the one before it.
     ///
     /// # Errors
-    /// The packet has more than 65,024 bytes, there are 2^32 - 1 pages already, or there is no memory for it; then a
-    /// part of it may be written.
+    /// The packet has more than 65,024 bytes, there are 2^32 - 1 pages already, or there is no memory for it; then the
+    /// packets are those of before, and a part of it may be written.
     pub fn push(
         &mut self,
         alloc: Global,
@@ -75,6 +75,7 @@ impl OpusPages {
         ensures after { OnOk result (playing_shown self.new
             ≡ playing_after (playing_shown self.old) (item packet.entry)) }
         ensures serial { self.new.serial ≡ self.old.serial }
+        ensures unchanged { OnErr result (self.new ≡ self.old) }
         ensures refused { IfErr result (λ e. e ≢ RecordingError.Memory → (e ≡ RecordingError.TooLong)
             × ((self.old.sequence ≡ 4294967295) ⊎ IsLong (item packet.entry))) }
     {

@@ -2,7 +2,7 @@
 use Rattle.std.specs.Prelude.{◌≡◌, ℕ, List, Option, None, Some, option_map}
 use Rattle.media_files_captures.specs.Captures.{Packet, seen}
 use Rattle.media_files_captures.specs.Pcapng.{Block, Reader, block, interfaces_of, packets_of, reader}
-use Rattle.media_files_captures.specs.Runs.{HoldsAll}
+use Rattle.media_files_captures.specs.Runs.{Holds, HoldsAll}
 use Rattle.media_files_captures.specs.declared.captures.CapturedPacket.{CapturedPacket}
 use Rattle.media_files_captures.specs.declared.pcapng.PcapngBlock.{PcapngBlock}
 use Rattle.media_files_captures.specs.declared.pcapng.PcapngReader.{PcapngReader}
@@ -29,3 +29,10 @@ pub record HoldsBlocks (old new : PcapngSection) (bytes : List ℕ) (packets : L
     pub held : HoldsAll block (reader old.order bytes) blocks (reader new.order unread)
     pub packets_are : packets ≡ packets_of old.interfaces.items blocks
     pub interfaces_are : new.interfaces.items ≡ interfaces_of old.interfaces.items blocks
+
+-- Blocks in front of these bytes lead from one section to another.
+pub record LeadsTo (old new : PcapngSection) (bytes : List ℕ) : Type 0 where
+  pub blocks : List Block
+  pub rest : List ℕ
+  pub held : Holds block (reader old.order bytes) blocks (reader new.order rest)
+  pub interfaces_are : new.interfaces.items ≡ interfaces_of old.interfaces.items blocks

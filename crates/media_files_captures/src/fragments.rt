@@ -1,6 +1,6 @@
 //! Fragments of IP packets, and the packets that they make (RFC 791 3.2, RFC 8200 4.5).
 
-ghost use Rattle.std.specs.Prelude.{◌≡◌, ◌++◌, ◌∷◌, ◌≤◌, ℕ, [], IfOk, filter, length, option_map};
+ghost use Rattle.std.specs.Prelude.{◌≡◌, ◌++◌, ◌∷◌, ◌≤◌, ℕ, [], IfOk, OnErr, filter, length, option_map};
 ghost use Rattle.media_files_captures.specs.Fragments.{Taken, fragment_in, fragment_of, fragment_shown, ipv4_fragment};
 ghost use Rattle.media_files_captures.specs.Fragments.{ipv6_fragment, ipv6_piece_of, is_of_packet, is_other, piece_at};
 ghost use Rattle.media_files_captures.specs.Fragments.{relation, relation_to, whole, with_end, with_room};
@@ -277,13 +277,14 @@ pub fn make_room(most: usize, held: &mut Vec<IpFragment<'_>>)
 /// Takes a fragment, in whatever order fragments come.
 ///
 /// # Errors
-/// There is no memory for the fragment, or for the packet that is whole.
+/// There is no memory for the fragment, or for the packet that is whole; then those that wait are those of before.
 pub fn take_fragment<'a>(
     alloc: Global,
     fragment: IpFragment<'a>,
     held: &mut Vec<IpFragment<'a>>,
 ) -> Result<Reassembly, AllocError>
-    ensures { IfOk result (λ r. Taken held.old.items fragment.entry r held.new.items) }
+    ensures taken { IfOk result (λ r. Taken held.old.items fragment.entry r held.new.items) }
+    ensures unchanged { OnErr result (held.new.items ≡ held.old.items) }
 {
     match relation_to(&fragment, held) {
         Relation::Same => return Ok(Reassembly::Repeated),
@@ -294,9 +295,15 @@ pub fn take_fragment<'a>(
         Relation::Apart => {}
     }
     held.push(fragment)?;
-    let Some(payload) = whole(alloc, &fragment, held)? else {
-        return Ok(Reassembly::Waiting);
-    };
-    drop_packet(&fragment, held);
-    Ok(Reassembly::Whole(payload))
+    match whole(alloc, &fragment, held) {
+        Ok(Some(payload)) => {
+            drop_packet(&fragment, held);
+            Ok(Reassembly::Whole(payload))
+        }
+        Ok(None) => Ok(Reassembly::Waiting),
+        Err(error) => {
+            held.pop();
+            Err(error)
+        }
+    }
 }

@@ -1,11 +1,13 @@
 //! Capture files of pcapng (draft-ietf-opsawg-pcapng).
 
-ghost use Rattle.std.specs.Prelude.{◌≡◌, ◌≢◌, ◌+◌, ◌++◌, ◌<◌, ◌≤◌, false, true, IfErr, IfOk, IfSome, OnOk, length, map};
+ghost use Rattle.std.specs.Prelude.{◌≡◌, ◌≢◌, ◌+◌, ◌++◌, ◌<◌, ◌≤◌, false, true, IfErr, IfOk, IfSome, OnErr, OnOk};
+ghost use Rattle.std.specs.Prelude.{length};
+ghost use Rattle.std.specs.Prelude.{map};
 ghost use Rattle.media_files_captures.specs.Captures.{seen};
 ghost use Rattle.media_files_captures.specs.Pcapng.{block, block_at, enhanced, interfaces_after, is_length, is_pcapng};
 ghost use Rattle.media_files_captures.specs.Pcapng.{IsPcapng, kept_of, order_of, packet_at, packet_in, reader, simple};
 ghost use Rattle.media_files_captures.specs.Pcapng.{with_interface};
-ghost use Rattle.media_files_captures.specs.PcapngViews.{HoldsBlocks, block_shown, packet_seen, read_block};
+ghost use Rattle.media_files_captures.specs.PcapngViews.{HoldsBlocks, LeadsTo, block_shown, packet_seen, read_block};
 ghost use Rattle.media_files_captures.specs.PcapngViews.{reader_shown};
 ghost use Rattle.std.specs.Option.{option_to_list};
 
@@ -233,7 +235,8 @@ fn take_interface(
     block: &PcapngBlock<'_>,
     interfaces: &mut Vec<Interface>,
 ) -> Result<(), AllocError>
-    ensures { OnOk result (interfaces.new.items ≡ interfaces_after interfaces.old.items (block_shown block.now)) }
+    ensures taken { OnOk result (interfaces.new.items ≡ interfaces_after interfaces.old.items (block_shown block.now)) }
+    ensures unchanged { OnErr result (interfaces.new.items ≡ interfaces.old.items) }
 {
     if block.kind == SECTION {
         interfaces.clear();
@@ -262,7 +265,9 @@ pub fn read_pcapng_blocks<'a>(
     section: &mut PcapngSection,
     bytes: &'a [u8],
 ) -> Result<Capture<'a>, AllocError>
-    ensures { IfOk result (λ c. HoldsBlocks section.old section.new bytes.now (map seen c.packets.items) c.unread.now) }
+    ensures read { IfOk result (λ c.
+        HoldsBlocks section.old section.new bytes.now (map seen c.packets.items) c.unread.now) }
+    ensures led { OnErr result (LeadsTo section.old section.new bytes.now) }
 {
     let mut packets = Vec::new(alloc);
     let mut reader = PcapngReader {
@@ -272,9 +277,9 @@ pub fn read_pcapng_blocks<'a>(
     while let Some((next, behind)) = block(reader) {
         take_packet(&section.interfaces, &next, &mut packets)?;
         take_interface(&next, &mut section.interfaces)?;
+        section.order = behind.order;
         reader = behind;
     }
-    section.order = reader.order;
     Ok(Capture {
         packets,
         unread: reader.rest,
