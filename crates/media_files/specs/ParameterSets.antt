@@ -9,13 +9,13 @@ abbrev pub texts_of : List ℕ → List (List ℕ)
 texts_of text = slice_split (λ b. b == 44) text
 
 -- A text is the base64 of a unit of at least one byte (RFC 4648 4).
-abbrev pub IsUnit : List ℕ → Type 0
-IsUnit text = (unit : List ℕ) × IsBytes unit × (0 < length unit) × (text ≡ encode_of standard unit)
+abbrev pub IsUnitText : List ℕ → Type 0
+IsUnitText text = (unit : List ℕ) × IsBytes unit × (0 < length unit) × (text ≡ encode_of standard unit)
 
 -- A text is the base64 of no unit.
-abbrev pub IsNoUnit : List ℕ → Type 0
-IsNoUnit text = IsUnit text → ⊥
+abbrev pub IsNoUnitText : List ℕ → Type 0
+IsNoUnitText text = IsUnitText text → ⊥
 
 -- Not all texts are those of units.
-abbrev pub AreNotUnits : List (List ℕ) → Type 0
-AreNotUnits texts = All IsUnit texts → ⊥
+abbrev pub AreNotUnitTexts : List (List ℕ) → Type 0
+AreNotUnitTexts texts = All IsUnitText texts → ⊥

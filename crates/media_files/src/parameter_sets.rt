@@ -4,7 +4,7 @@ ghost use Rattle.std.specs.Prelude.{◌≡◌, ◌<◌, IfNone, IfOk, IfSome, le
 ghost use Rattle.std.specs.List.{All};
 ghost use Rattle.base64.specs.Engines.{standard};
 ghost use Rattle.base64.specs.GeneralPurpose.{encode_of};
-ghost use Rattle.media_files.specs.ParameterSets.{AreNotUnits, IsNoUnit, texts_of};
+ghost use Rattle.media_files.specs.ParameterSets.{AreNotUnitTexts, IsNoUnitText, texts_of};
 
 use base64::DecodeAllocError;
 use base64::engine::general_purpose::STANDARD;
@@ -14,7 +14,7 @@ use std::alloc::{AllocError, Global};
 fn unit_of(alloc: Global, text: &str) -> Result<Option<Vec<u8>>, AllocError>
     ensures value { IfOk result (λ found. IfSome found (λ unit. encode_of standard unit.items ≡ text.now)) }
     ensures some { IfOk result (λ found. IfSome found (λ unit. 0 < length unit.items)) }
-    ensures none { IfOk result (λ found. IfNone found (IsNoUnit text.now)) }
+    ensures none { IfOk result (λ found. IfNone found (IsNoUnitText text.now)) }
 {
     match STANDARD.decode(alloc, text.as_bytes()) {
         Ok(unit) if unit.is_empty() => Ok(None),
@@ -41,7 +41,7 @@ pub fn listed_units(alloc: Global, text: &str) -> Result<Option<Vec<Vec<u8>>>, A
     ensures value { IfOk result (λ found. IfSome found (λ units.
         map (λ unit. encode_of standard unit.items) units.items ≡ texts_of text.now)) }
     ensures some { IfOk result (λ found. IfSome found (λ units. All (λ unit. 0 < length unit.items) units.items)) }
-    ensures none { IfOk result (λ found. IfNone found (AreNotUnits (texts_of text.now))) }
+    ensures none { IfOk result (λ found. IfNone found (AreNotUnitTexts (texts_of text.now))) }
 {
     let texts = between_commas(alloc, text)?;
     let mut units = Vec::new(alloc);
