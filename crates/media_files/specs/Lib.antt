@@ -8,6 +8,7 @@ pub mod OggViews
 pub mod Opus
 pub mod OpusViews
 pub mod PagesViews
+pub mod ParameterSets
 pub mod Superframe
 pub mod Units
 pub mod Wav
