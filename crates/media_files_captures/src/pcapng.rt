@@ -1,8 +1,7 @@
 //! Capture files of pcapng (draft-ietf-opsawg-pcapng).
 
 ghost use Rattle.std.specs.Prelude.{◌≡◌, ◌≢◌, ◌+◌, ◌++◌, ◌<◌, ◌≤◌, false, true, IfErr, IfOk, IfSome, OnErr, OnOk};
-ghost use Rattle.std.specs.Prelude.{length};
-ghost use Rattle.std.specs.Prelude.{map};
+ghost use Rattle.std.specs.Prelude.{length, map};
 ghost use Rattle.media_files_captures.specs.Captures.{seen};
 ghost use Rattle.media_files_captures.specs.Pcapng.{block, block_at, enhanced, interfaces_after, is_length, is_pcapng};
 ghost use Rattle.media_files_captures.specs.Pcapng.{IsPcapng, kept_of, order_of, packet_at, packet_in, reader, simple};
