@@ -3,6 +3,7 @@ pub mod Beside
 pub mod Datagrams
 pub mod Exact
 pub mod Isolation
+pub mod MadeAt
 pub mod MayOpen
 pub mod Opened
 pub mod OpenedReceiver

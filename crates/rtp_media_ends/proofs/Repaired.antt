@@ -1,14 +1,13 @@
 -- A repair is to a stream what the datagram is that it wraps.
-use Rattle.std.proofs.Common.{◌≡◌, ◌≢◌, ℕ, ◌+◌, ◌^◌, ◌<◌, ◌≤◌, refl, sym, ◌∙◌, ap, ap₂, subst, arith, Bool, true}
+use Rattle.std.proofs.Common.{◌≡◌, ◌≢◌, ℕ, ◌+◌, ◌^◌, ◌<◌, refl, sym, ◌∙◌, ap, ap₂, subst, arith, Bool, true}
 use Rattle.std.proofs.Common.{false, ◌&&◌, ◌||◌, true≢false, List, [], ◌∷◌, ◌++◌, length}
 use Rattle.std.proofs.lemmas.Bool.Decides.{nat_tests}
 use Rattle.std.proofs.lemmas.List.{drop_at}
-use Rattle.std.specs.Prelude.{◌==◌, ◌*◌, ◌/◌, if◌then◌else◌, nat_le, nat_lt, is_some, Option, Some, None}
-use Rattle.std.specs.Prelude.{Ok, Err, option_and_then, slice_index}
+use Rattle.std.specs.Prelude.{◌==◌, if◌then◌else◌, nat_lt, is_some, Option, Some, None}
+use Rattle.std.specs.Prelude.{Ok, Err, option_and_then}
 use Rattle.std.specs.Int.{w16, to_be_bytes}
 use Rattle.std.specs.Option.{option_map}
-use Rattle.rtp_wire.specs.Header.{block_at, fields_in, has_extension_in, header_in, header_length_in, header_of}
-use Rattle.rtp_wire.specs.Header.{is_header, payload_in, u16_at, values_in}
+use Rattle.rtp_wire.specs.Header.{header_in, header_of, payload_in, values_in}
 use Rattle.rtp_wire.specs.Layout.{Layout, IsLayout, layout_bytes}
 use Rattle.rtp_wire.specs.Maps.{empty_map}
 use Rattle.rtp_wire.specs.Padding.{unpadded}
@@ -16,7 +15,7 @@ use Rattle.rtp_wire.specs.declared.values.ExtensionValues.{ExtensionValues}
 use Rattle.rtp_wire.specs.declared.header.RtpHeader.{RtpHeader}
 use Rattle.rtp_wire.proofs.HeaderLaws.{header_in-layout}
 use Rattle.rtp_wire.specs.Repairs.{Wrapped, readdressed, repair_of, wrapped_in}
-use Rattle.rtp_wire.proofs.RepairLaws.{payload-layout, reads-layout, repair_length, wraps-behind}
+use Rattle.rtp_wire.proofs.RepairLaws.{payload-layout, reads-layout, wraps-behind}
 use Rattle.payload_core_audio.specs.RedReading.{read_red}
 use Rattle.rtp_media_schedules.specs.Hearing.{Comes, Content, Event, content_of}
 use Rattle.rtp_media_streams.specs.Redundant.{primary_of, unwrapped}
@@ -141,7 +140,6 @@ record IsRepair (s : Sending) (d bytes : List ℕ) : Type 0 where
   read : header_in empty_map d ≡ Some header
   own : is_plainly_own s header d ≡ true
   is : bytes ≡ repair_of key.pt s.repairs key.ssrc header.header_len d
-  fits : length d + 2 ≤ s.limit
 
 some-is : {A : Type 0} (x y : A) → Some x ≡ Some y → x ≡ y
 some-is x y e = cc
@@ -149,13 +147,6 @@ some-is x y e = cc
 within-limit : (b : Bool) (xs bytes : List ℕ) → (if b then Err LimitTooSmall else Ok xs) ≡ Ok bytes → bytes ≡ xs
 within-limit true xs bytes e = absurd cc
 within-limit false xs bytes e = cc
-
-not-over : (limit n : ℕ) (xs bytes : List ℕ) → (if nat_lt limit n then Err LimitTooSmall else Ok xs) ≡ Ok bytes
-    → n ≤ limit
-not-over limit n xs bytes e = go (nat_lt limit n) refl e where
-  go : (b : Bool) → nat_lt limit n ≡ b → (if b then Err LimitTooSmall else Ok xs) ≡ Ok bytes → n ≤ limit
-  go true over e = absurd cc
-  go false over e = grind (arith, nat_tests, over)
 
 record IsOwn (s : Sending) (o : Option RtpHeader) (d : List ℕ) (len : ℕ) : Type 0 where
   header : RtpHeader
@@ -190,7 +181,6 @@ repair-under s key (Some len) d bytes e own pair =
       own = is.own;
       is = within-limit (nat_lt s.limit (length d + 2)) (repair_of key.pt s.repairs key.ssrc len d) bytes e
           ∙ ap (λ (n : ℕ). repair_of key.pt s.repairs key.ssrc n d) is.is;
-      fits = not-over s.limit (length d + 2) (repair_of key.pt s.repairs key.ssrc len d) bytes e;
     }
 
 repair-by : (s : Sending) (o : Option RepairKey) (d bytes : List ℕ) → repair_by s o d ≡ Ok bytes → repair_key s ≡ o
@@ -272,36 +262,3 @@ pub counts : (r : Receiving) (s : Sending) (d bytes : List ℕ) → TakesRepairs
 counts r s d bytes takes is e =
     let same : BringSame r d bytes = bring-same r s d bytes takes is e in
     same.repaired ∙ sym same.plain
-
--- a header that is read ends in its datagram, after the twelve bytes that each has
-twelve : (n m : ℕ) (b : Bool) → 12 ≤ n → 12 ≤ (if b then n + 4 + 4 * m else n)
-twelve n m true least = omega (arith, least)
-twelve n m false least = least
-
-le-of : (a b : ℕ) → nat_le a b ≡ true → a ≤ b
-le-of a b h = grind (arith, nat_tests)
-
-header-ends : (d : List ℕ) (h : RtpHeader) → header_in empty_map d ≡ Some h
-    → (12 ≤ h.header_len) × (h.header_len ≤ length d)
-header-ends d h e = go (is_header d) refl e where
-  go : (b : Bool) → is_header d ≡ b → (if b then Some (fields_in empty_map d) else None) ≡ Some h
-      → (12 ≤ h.header_len) × (h.header_len ≤ length d)
-  go false is e = absurd cc
-  go true is e =
-      let len : header_length_in d ≡ h.header_len =
-      ap (λ (x : RtpHeader). x.header_len) (some-is (fields_in empty_map d) h e) in
-      let low : 12 ≤ header_length_in d =
-      twelve (block_at d) (u16_at d (block_at d + 2)) (has_extension_in d) (omega arith) in
-      let high : header_length_in d ≤ length d =
-      le-of (header_length_in d) (length d)
-      (and-right (slice_index d 0 / 64 == 2) (nat_le (header_length_in d) (length d)) is) in
-      (omega (arith, len, low), omega (arith, len, high))
-
--- A repair has no more bytes than the limit.
-pub repair-fits : (s : Sending) (d bytes : List ℕ) → repair s d ≡ Ok bytes → length bytes ≤ s.limit
-repair-fits s d bytes e =
-    let is : IsRepair s d bytes = repair-by s (repair_key s) d bytes e refl in
-    let ends = header-ends d is.header is.read in
-    let len : length bytes ≡ length d + 2 =
-    ap length is.is ∙ repair_length is.key.pt s.repairs is.key.ssrc is.header.header_len d ends.0 ends.1 in
-    omega (arith, len, is.fits)

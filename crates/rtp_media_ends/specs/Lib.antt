@@ -4,6 +4,7 @@ pub mod Ends
 pub mod FullArrival
 pub mod OpensAt
 pub mod OwnEvents
+pub mod PacketSteps
 pub mod Params
 pub mod Repairs
 pub mod SendSteps

@@ -1,12 +1,13 @@
 //! An end of a session.
 
-ghost use Rattle.std.specs.Prelude.{◌≡◌, ◌≢◌, ◌≤◌, [], Ok, Err, true, length, OnOk, OnErr, IfOk, IfErr};
-ghost use Rattle.rtp_media_streams.specs.Repairing.{repair, with_repair};
+ghost use Rattle.std.specs.Prelude.{◌≡◌, ◌≤◌, [], true, length, OnErr, IfOk, IfErr};
+ghost use Rattle.rtp_media_streams.specs.PacketSteps.{MakesBy};
 ghost use Rattle.rtp_media_streams.specs.SendSteps.{SendsBy, left_in, returned};
 ghost use Rattle.rtp_media_streams.specs.Sending.{skipped_to};
 ghost use Rattle.rtp_media_sections.specs.Agreement.{agreed_row_of};
 ghost use Rattle.rtp_media_ends.specs.Ends.{agreed_red, fixed_end, sender_at, with_sender, is_receiver_at};
 ghost use Rattle.rtp_media_ends.specs.Ends.{is_sender_at};
+ghost use Rattle.rtp_media_ends.specs.PacketSteps.{repair_step_at};
 ghost use Rattle.rtp_media_ends.specs.SendSteps.{send_step_at};
 
 mod closing;
@@ -224,13 +225,8 @@ impl End {
     /// The first that holds of `NoRepair`, `NotOwn` and `LimitTooSmall`; or `Memory`. The end is then unchanged.
     pub fn repair(&mut self, stream: usize, datagram: &[u8]) -> Result<Datagram, RepairError>
         requires { is_sender_at self.old stream ≡ true }
-        ensures repaired { IfOk result (λ d. repair (sender_at self.old stream) datagram.now ≡ Ok d) }
+        ensures repairs { MakesBy (repair_step_at self.old stream datagram.now) self.new result }
         ensures within { IfOk result (λ d. length d ≤ (sender_at self.old stream).limit) }
-        ensures after { OnOk result (self.new ≡ with_sender self.old stream
-            (with_repair (sender_at self.old stream))) }
-        ensures refused { IfErr result (λ e. e ≢ RepairError.Memory
-            → repair (sender_at self.old stream) datagram.now ≡ Err e) }
-        ensures unchanged { OnErr result (self.new ≡ self.old) }
     {
         let streams = &mut self.streams;
         streams.repair(stream, datagram)

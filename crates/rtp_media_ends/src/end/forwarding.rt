@@ -1,14 +1,13 @@
 //! Packets that are sent on without being put together.
 
-ghost use Rattle.std.specs.Prelude.{◌≡◌, ◌≢◌, ◌≤◌, length, slice_range, true, None, Some, OnOk, OnErr, IfErr, IfOk};
+ghost use Rattle.std.specs.Prelude.{◌≡◌, ◌≤◌, length, slice_range, true, IfErr, IfOk};
 ghost use Rattle.payload_core_base.specs.Outgoing.{outgoing};
-ghost use Rattle.rtp_media_streams.specs.Forwarding.{after_packet, refusal_of_packet};
+ghost use Rattle.rtp_media_streams.specs.PacketSteps.{MakesBy};
 ghost use Rattle.rtp_media_streams.specs.Receiving.{number_taken, taken_number, with_stream};
-ghost use Rattle.rtp_media_streams.specs.Sending.{datagram_of};
 ghost use Rattle.rtp_media_stream_table.specs.Arrivals.{Own, arrival_at};
 ghost use Rattle.rtp_media_ends.specs.EndArrivals.{verdict_of, after_datagram};
 ghost use Rattle.rtp_media_ends.specs.Ends.{is_receiver_at, is_sender_at, receiver_at, sender_at, with_receiver};
-ghost use Rattle.rtp_media_ends.specs.Ends.{with_sender};
+ghost use Rattle.rtp_media_ends.specs.PacketSteps.{packet_step_at};
 
 use super::End;
 use rtp_media_stream_table::Received;
@@ -69,16 +68,9 @@ impl End {
         payload: &[u8],
     ) -> Result<Datagram, ForwardError>
         requires { is_sender_at self.old stream ≡ true }
-        ensures sent { IfOk result (λ d. d ≡ datagram_of (sender_at self.old stream) number
-            (outgoing payload.now marker time values.now)) }
+        ensures sends { let packet = outgoing payload.now marker time values.now in
+            MakesBy (packet_step_at self.old stream number packet) self.new result }
         ensures within { IfOk result (λ d. length d ≤ (sender_at self.old stream).limit) }
-        ensures accepted { OnOk result (refusal_of_packet (sender_at self.old stream) number
-            (outgoing payload.now marker time values.now) ≡ None) }
-        ensures after { OnOk result (self.new ≡ with_sender self.old stream
-            (after_packet (sender_at self.old stream) number)) }
-        ensures refused { IfErr result (λ e. e ≢ ForwardError.Memory → refusal_of_packet
-            (sender_at self.old stream) number (outgoing payload.now marker time values.now) ≡ Some e) }
-        ensures unchanged { OnErr result (self.new ≡ self.old) }
     {
         let streams = &mut self.streams;
         streams.send_packet(stream, number, time, marker, values, payload)
