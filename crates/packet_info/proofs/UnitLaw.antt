@@ -1,7 +1,6 @@
 -- A packet shows a key frame exactly if the unit that begins with it is one.
 use Rattle.std.proofs.Common.{◌≡◌, ℕ, Bool, true, false, List, [], ◌∷◌, refl}
-use Rattle.std.specs.Prelude.{◌||◌, Option, None, Some, Result, Ok, Err, IfOk, if◌then◌else◌}
-use Rattle.h26x_payload.specs.Codings.{Settings}
+use Rattle.std.specs.Prelude.{Option, None, Some, Result, Ok, Err, IfOk, if◌then◌else◌}
 use Rattle.h26x_payload_formats.specs.H264Reading as h264
 use Rattle.h26x_payload_formats.specs.Reading as h26x
 use Rattle.h26x_payload_units.specs.Reading.{Given}

@@ -1,6 +1,6 @@
 -- Two publishers, a forwarder and a subscriber, of a codec that sends each sample in one packet.
-use Rattle.std.proofs.Common.{◌≡◌, ℕ, ◌-◌, ◌^◌, ◌<◌, ◌≤◌, refl, sym, ◌∙◌, ap, ap₂, subst, arith, inl}
-use Rattle.std.proofs.Common.{inr, Bool, true, false, List, [], ◌∷◌, ◌++◌, append-nil, length, map}
+use Rattle.std.proofs.Common.{◌≡◌, ℕ, ◌-◌, ◌^◌, ◌<◌, refl, sym, ◌∙◌, ap, ap₂, subst, arith, inl}
+use Rattle.std.proofs.Common.{inr, Bool, true, List, [], ◌∷◌, ◌++◌, append-nil, length, map}
 use Rattle.std.proofs.lemmas.List.{length-append}
 use Rattle.std.specs.Prelude.{Some, if◌then◌else◌, slice_get}
 use Rattle.std.specs.Prelude.{slice_index_or}
@@ -9,23 +9,20 @@ use Rattle.h26x_payload.specs.Dispatch.{FirstIsReached, KeepCodecLawInForms}
 use Rattle.payload_core_base.specs.Format.{Format}
 use Rattle.rtp_wire.specs.declared.values.ExtensionValues.{ExtensionValues}
 use Rattle.rtp_media_schedules.specs.Hearing as hearing
-use Rattle.rtp_media_schedules.specs.Hearing.{Content, EndsSilent, Stream, content_of, fresh, heard, number_at}
-use Rattle.rtp_media_schedules.specs.Hearing.{packet_of}
-use Rattle.rtp_media_schedules.specs.Hearing.{taken_by}
+use Rattle.rtp_media_schedules.specs.Hearing.{Content, EndsSilent, fresh, heard}
 use Rattle.rtp_media_schedules.specs.Orders.{IsTame, first_size}
 use Rattle.rtp_media_schedules.specs.Samples.{SentSample, canonical_units, datagrams, frame_sizes, packets_of}
 use Rattle.rtp_media_schedules.specs.Samples.{whole_unit}
 use Rattle.rtp_media_schedules.specs.SentSamples.{timed}
 use Rattle.rtp_media_schedules.specs.Sending.{no_content, numbered}
 use Rattle.rtp_media_schedules.specs.Turns as turns
-use Rattle.rtp_media_schedules.specs.Turns.{AllCame, Ask, Turn, event_of}
+use Rattle.rtp_media_schedules.specs.Turns.{Ask, Turn, event_of}
 use Rattle.rtp_media_stream_table.specs.Arrivals.{Own, arrival_at}
 use Rattle.rtp_media_streams.specs.Receiving.{Receiving, opened_receiver, with_stream}
 use Rattle.rtp_media_streams.specs.Repairing.{repair}
-use Rattle.rtp_media_streams.specs.Rows.{format_of, settings_in}
+use Rattle.rtp_media_streams.specs.Rows.{format_of}
 use Rattle.rtp_media_streams.specs.Sending.{IsTypedBy, Sample, Sending, carried, datagram_of, datagrams_of}
-use Rattle.rtp_media_streams.specs.Sending.{packet_limit, samples_of, timestamp}
-use Rattle.rtp_media_streams.specs.declared.row_format.RowFormat.{RowFormat}
+use Rattle.rtp_media_streams.specs.Sending.{timestamp}
 use Rattle.rtp_media_ends.specs.Ends.{EndState, after_open_receiver, receiver_at}
 use Rattle.rtp_media_ends.specs.FullArrival.{count_of, sent_samples}
 use Rattle.rtp_media_ends.specs.OwnEvents.{event_in}

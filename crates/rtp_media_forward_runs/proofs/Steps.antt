@@ -20,7 +20,7 @@ use Rattle.rtp_media_forward_runs.specs.Hops.{AreHeardAs, IsPlain, event_in, rec
 use Rattle.rtp_media_forward_runs.specs.Steps.{datagram_on, datagrams_in}
 use Rattle.rtp_media_forward_runs.specs.Virtual.{numbered_datagrams, payloads_of, virtual_datagrams}
 use Rattle.rtp_media_forward_runs.proofs.ForwardedRuns as forwarded
-use Rattle.rtp_media_forward_runs.proofs.ForwardedRuns.{brought-at, content_in, contents-are}
+use Rattle.rtp_media_forward_runs.proofs.ForwardedRuns.{brought-at, contents-are}
 use Rattle.rtp_media_forward_runs.proofs.Virtual.{at-numbers, many, payloads-are}
 
 module _ (s : Sending) (own : ExtensionValues → ExtensionValues) (senders : ℕ → ℕ → Content) (first : ℕ)

@@ -11,12 +11,12 @@ use Rattle.payload_core_buffer.specs.Buffered.{Holding, held_with, is_done, limi
 use Rattle.payload_core_buffer.specs.Packets.{Packet}
 use Rattle.rtp_wire.specs.Replay.{is_accepted, recorded_in}
 use Rattle.rtp_media_schedules.specs.Hearing as hearing
-use Rattle.rtp_media_schedules.specs.Hearing.{Content, EndsSilent, Stream, content_of, fresh, heard, number_at}
+use Rattle.rtp_media_schedules.specs.Hearing.{Content, EndsSilent, Stream, fresh, heard, number_at}
 use Rattle.rtp_media_schedules.specs.Hearing.{packet_of}
 use Rattle.rtp_media_schedules.specs.Hearing.{taken_by}
 use Rattle.rtp_media_schedules.specs.Orders.{IsGoodPoll, IsTame}
 use Rattle.rtp_media_schedules.specs.Turns as turns
-use Rattle.rtp_media_schedules.specs.Turns.{AllCame, Ask, Turn, event_of}
+use Rattle.rtp_media_schedules.specs.Turns.{AllCame, Ask, Turn}
 use Rattle.rtp_media_schedules.proofs.Polls.{polls-end}
 
 -- orders of two datagrams

@@ -1,7 +1,7 @@
 -- VP8 in a room: the stream of a hop sends a frame as one packet.
-use Rattle.std.proofs.Common.{◌≡◌, ℕ, ◌+◌, ◌-◌, ◌<◌, ◌≤◌, refl, sym, ◌∙◌, ap, ap₂, subst, arith, Bool, true, false}
+use Rattle.std.proofs.Common.{◌≡◌, ℕ, ◌+◌, ◌-◌, ◌<◌, ◌≤◌, refl, sym, ◌∙◌, ap, subst, arith, Bool, true, false}
 use Rattle.std.proofs.Common.{List}
-use Rattle.std.proofs.Common.{[], ◌∷◌, length, Option, Ok}
+use Rattle.std.proofs.Common.{[], ◌∷◌, length, Option}
 use Rattle.std.proofs.lemmas.Bool.Decides.{nat_tests}
 use Rattle.std.proofs.lemmas.List.Elements.{All-cons, All-nil}
 use Rattle.std.specs.Prelude.{if◌then◌else◌, is_some, nat_le}

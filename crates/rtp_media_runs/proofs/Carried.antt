@@ -1,6 +1,6 @@
 -- A sample of each codec, and its unit.
-use Rattle.std.proofs.Common.{rules, arith, ◌≡◌, ◌≢◌, ℕ, ◌+◌, ◌<◌, ◌≤◌, length, Bool, true, false, nat_eq, nat_lt, List}
-use Rattle.std.proofs.Common.{[], ◌∷◌, ◌++◌, Some, None, refl, ap, length-append}
+use Rattle.std.proofs.Common.{arith, ◌≡◌, ◌≢◌, ℕ, ◌+◌, length, List}
+use Rattle.std.proofs.Common.{[], ◌∷◌, ◌++◌, None, refl, ap, length-append}
 use Rattle.h26x_payload_units.specs.Cut.{EndsInNoZero}
 use Rattle.h26x_payload_units.specs.Units.{units_of}
 use Rattle.payload_core_audio.specs.AmrWb.{efficient_bit, header_at, speech_of}

@@ -1,5 +1,5 @@
 -- The repair of a datagram that came already is refused, and the end stays as it is.
-use Rattle.std.proofs.Common.{◌≡◌, ℕ, zero, suc, ◌+◌, ◌%◌, ◌<◌, ◌≤◌, refl, sym, ◌∙◌, ap, ap₂, subst, arith, Bool}
+use Rattle.std.proofs.Common.{◌≡◌, ℕ, zero, suc, ◌+◌, ◌%◌, ◌<◌, refl, sym, ◌∙◌, ap, ap₂, subst, arith, Bool}
 use Rattle.std.proofs.Common.{true, false, true≢false, ◌||◌, List, [], ◌∷◌, ◌++◌, length, map, Option, Some, None}
 use Rattle.std.proofs.Common.{Result, Ok, Err, inl, inr}
 use Rattle.std.proofs.lemmas.Bool.Decides.{nat_tests}
@@ -7,14 +7,14 @@ use Rattle.std.specs.Option.{option_map}
 use Rattle.std.specs.Prelude.{◌==◌, ◌⊎◌, if◌then◌else◌, nat_lt, slice_get, slice_set}
 use Rattle.h26x_payload.specs.Dispatch.{KeepCodecLawInForms}
 use Rattle.rtp_wire.specs.Replay.{is_accepted}
-use Rattle.rtp_media_schedules.specs.Hearing.{Comes, Content, Stream, after_events, fresh, number_at, taken_by}
+use Rattle.rtp_media_schedules.specs.Hearing.{Comes, Content, Stream, after_events, fresh, number_at}
 use Rattle.payload_core_buffer.specs.Buffered.{Holding}
 use Rattle.rtp_media_schedules.specs.Orders.{IsSane}
 use Rattle.rtp_media_schedules.specs.TrueNumbers.{arrived}
 use Rattle.rtp_media_schedules.specs.Turns as turns
 use Rattle.rtp_media_schedules.specs.Turns.{Ask, Turn, event_of, is_among}
 use Rattle.rtp_media_runs.proofs.Repeats.{refused}
-use Rattle.rtp_media_streams.specs.Receiving.{Receiving, opened_receiver, taken_number, with_stream}
+use Rattle.rtp_media_streams.specs.Receiving.{Receiving, opened_receiver, with_stream}
 use Rattle.rtp_media_streams.specs.Receiving as receiving
 use Rattle.rtp_media_streams.specs.Repairing.{repair}
 use Rattle.rtp_media_streams.specs.Sending.{Sample, Sending}
@@ -42,7 +42,6 @@ use Rattle.rtp_media_runs.specs.Schedules.{bytes_of, has_come, is_made, is_repai
 use Rattle.rtp_media_runs.specs.Schedules.{source_after_all, source_of, turns_of}
 use Rattle.rtp_media_runs.specs.declared.schedule.Event.{Event}
 use Rattle.rtp_media_runs.specs.declared.schedule.Event.TheVariants.{Arrive, Foreign, Poll, Repair}
-use Rattle.rtp_media_runs.specs.declared.schedule.Played.{Played}
 use Rattle.rtp_media_runs.specs.declared.schedule.Played.TheVariants as played
 use Rattle.rtp_media_runs.proofs.Isolated.{IsAfter, after-isolated}
 use Rattle.rtp_media_runs.proofs.WholeRuns as whole

@@ -28,7 +28,7 @@ use Rattle.rtp_media_schedules.specs.Turns.{AllCame, Ask}
 use Rattle.rtp_media_schedules.proofs.Polls.{polls-end}
 use Rattle.h26x_payload.specs.Codings.{forms_for}
 use Rattle.rtp_media_streams.specs.Rows.{format_of, settings_in}
-use Rattle.rtp_media_streams.specs.Sending.{Sample, Sending, carried, datagrams_of, opened_sender, packet_limit}
+use Rattle.rtp_media_streams.specs.Sending.{Sample, Sending, carried, opened_sender, packet_limit}
 use Rattle.rtp_media_streams.specs.Sending.{samples_of, timestamp}
 use Rattle.rtp_media_streams.specs.declared.row_format.RowFormat.{RowFormat}
 use Rattle.rtp_media_ends.specs.Ends.{sender_types, new_receiver}

@@ -13,7 +13,6 @@ use Rattle.rtp_media_stream_table.specs.Streams.{is_receiving, is_sending, no_re
 use Rattle.rtp_media_stream_table.specs.Streams.{sending_of}
 use Rattle.rtp_media_stream_table.specs.declared.open_stream.OpenStream.{OpenStream}
 use Rattle.rtp_media_stream_table.specs.declared.open_stream.OpenStream.TheVariants.{Closed, Receiver, Sender}
-use Rattle.rtp_media_streams.specs.Repairing.{with_repair}
 use Rattle.rtp_media_streams.specs.Sending.{Sample, Sending, after_samples, datagrams_of}
 use Rattle.rtp_media_streams.specs.declared.errors.RepairError.{RepairError}
 use Rattle.rtp_media_streams.specs.Receiving.{Receiving}

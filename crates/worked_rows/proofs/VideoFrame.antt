@@ -23,7 +23,7 @@ use Rattle.rtp_wire.specs.Carried.{AreValues}
 use Rattle.rtp_wire.specs.declared.values.ExtensionValues.{ExtensionValues}
 use Rattle.rtp_media_schedules.specs.Hearing.{EndsSilent}
 use Rattle.rtp_media_schedules.specs.Orders.{IsGoodPoll, IsTame, first_size}
-use Rattle.rtp_media_schedules.specs.SentSamples.{Timed, timed, timed_unit}
+use Rattle.rtp_media_schedules.specs.SentSamples.{timed, timed_unit}
 use Rattle.rtp_media_schedules.specs.Samples.{SentSample, canonical_units, frame_sizes, packets_of, sent_by, whole_unit}
 use Rattle.rtp_media_schedules.specs.Turns as turns
 use Rattle.rtp_media_schedules.specs.Turns.{AllCame, Ask, IsGoodArrival, Turn}

@@ -1,4 +1,4 @@
-use Rattle.std.proofs.Common.{◌≡◌, ℕ, arith, true, length, subst, Result, Ok, Err, IfOk}
+use Rattle.std.proofs.Common.{◌≡◌, arith, true, length, subst, Result, Ok, Err, IfOk}
 use Rattle.std.specs.Prelude.{nat_lt}
 use Rattle.std.proofs.lemmas.Grind.{common_steps}
 use Rattle.rtp_media_ends.specs.Ends.{is_sender_at}

@@ -1,15 +1,15 @@
-use Rattle.std.proofs.Common.{◌≡◌, ℕ, List, sym, ◌∙◌, ap, subst, inl, inr, refl, Some, Result, Ok, Err, IfOk, [], ◌∷◌}
+use Rattle.std.proofs.Common.{◌≡◌, ℕ, List, sym, ◌∙◌, ap, subst, Some, Result, Ok, Err, IfOk, [], ◌∷◌}
 use Rattle.std.specs.Prelude.{Option, slice_range}
 use Rattle.rtp_media_streams.specs.Receiving.{taken_number}
 use Rattle.rtp_media_streams.specs.declared.receiver.Arrival.{Arrival}
 use Rattle.rtp_media_stream_table.specs.Arrivals.{arrival_at}
-use Rattle.rtp_media_ends.specs.Ends.{EndState, receiver_at}
+use Rattle.rtp_media_ends.specs.Ends.{receiver_at}
 use Rattle.rtp_media_forward.specs.Forwarding.{after_packet}
 use Rattle.rtp_media_forward.specs.declared.forwarder.Placed.{Placed}
 use Rattle.rtp_media_program.specs.Relaying.{Brought, arrival_of}
 use Rattle.rtp_media_program.specs.declared.reply.Reply.{Reply}
 use Rattle.rtp_media_program.specs.declared.reply.Reply.TheVariants as reply
-use Rattle.rtp_media_program.proofs.Relayed.{not-placed, not-taken, passed-on, ran-out, still-sender}
+use Rattle.rtp_media_program.proofs.Relayed.{not-placed, not-taken, passed-on, ran-out}
 use Rattle.rtp_media_program.proofs.relaying.forward_by.Goals as goal
 
 if_ok : {A E : Type 0} {P Q : A → Type 0} (r : Result A E) → ((a : A) → P a → Q a) → IfOk r P → IfOk r Q

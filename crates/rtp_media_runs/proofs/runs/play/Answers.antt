@@ -1,4 +1,4 @@
-use Rattle.std.proofs.Common.{◌≡◌, ℕ, List, map, refl, sym, ◌∙◌, ap, subst}
+use Rattle.std.proofs.Common.{◌≡◌, List, map, refl, sym, ◌∙◌, ap, subst}
 use Rattle.payload_core_buffer.specs.Steps.{Answer}
 use Rattle.rtp_media_schedules.specs.Hearing.{handed_out}
 use Rattle.rtp_media_schedules.specs.SentSamples.{timed_unit}

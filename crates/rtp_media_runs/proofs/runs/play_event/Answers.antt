@@ -1,7 +1,7 @@
 use Rattle.std.proofs.Common.{◌≡◌, ◌∙◌, ap, sym, IfOk, OnOk, List, ℕ, Option, Some, Result, Ok, Err, option_to_list}
 use Rattle.rtp_media_ends.specs.Ends.{EndState}
 use Rattle.rtp_media_runs.specs.Pushing.{source_at}
-use Rattle.rtp_media_runs.specs.Schedules.{Source, after_bytes, after_event, answers_to, verdicts_on}
+use Rattle.rtp_media_runs.specs.Schedules.{after_bytes, after_event, answers_to, verdicts_on}
 use Rattle.rtp_media_runs.specs.declared.schedule.Played.{Played}
 use Rattle.rtp_media_runs.proofs.Plays.{get-none, get-some}
 use Rattle.rtp_media_runs.proofs.runs.play_event.Goals as goal

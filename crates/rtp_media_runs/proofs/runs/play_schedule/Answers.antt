@@ -1,9 +1,9 @@
-use Rattle.std.proofs.Common.{◌≡◌, ◌∙◌, ap, refl, ◌++◌, List, Result, Ok, Err, OnErr}
-use Rattle.rtp_media_runs.specs.Pushing.{after_repairs, source_at}
+use Rattle.std.proofs.Common.{◌∙◌, ap, refl, ◌++◌, List, Result, Ok, Err, OnErr}
+use Rattle.rtp_media_runs.specs.Pushing.{source_at}
 use Rattle.rtp_media_runs.specs.Schedules.{answers_to}
 use Rattle.rtp_media_runs.specs.declared.schedule.Event.TheVariants.{Poll}
 use Rattle.rtp_media_runs.specs.declared.schedule.Played.{Played}
-use Rattle.rtp_media_runs.proofs.Plays.{none-played, played-on, repairs-made, stops-at, stops-here}
+use Rattle.rtp_media_runs.proofs.Plays.{played-on, repairs-made, stops-at, stops-here}
 use Rattle.std.proofs.Common.{arith}
 use Rattle.std.proofs.lemmas.Grind.{common_steps}
 use Rattle.rtp_media_runs.proofs.runs.play_schedule.Goals as goal

@@ -1,4 +1,4 @@
-use Rattle.std.proofs.Common.{◌≡◌, ℕ, ◌≤◌, ◌∙◌, sym, ap, subst, subst₂, arith, length, true, List, Option, [], ◌∷◌}
+use Rattle.std.proofs.Common.{◌≡◌, ℕ, sym, ap, subst, subst₂, arith, length, List, Option, [], ◌∷◌}
 use Rattle.std.specs.Prelude.{IfSome}
 use Rattle.sdp_formats_rows.specs.Rows.{Row}
 use Rattle.rtp_media_sections.specs.Agreement.{agreed_row_of}
@@ -14,7 +14,6 @@ use Rattle.worked_rows.specs.Call.{opened_to_hold}
 use Rattle.worked_rows.specs.VideoCall.{IsVp8, SendsFrames, frame_params}
 use Rattle.worked_rows.proofs.Streams.{key-low}
 use Rattle.worked_rows.proofs.VideoFrame.{frame-sound, sends-frames, two-datagrams}
-use Rattle.std.proofs.lemmas.Grind.{common_steps}
 use Rattle.worked_rows.proofs.video_call.carry_between.Goals as goal
 
 pub carry_over-requires-clause-sends : goal.carry_over-requires-clause-sends

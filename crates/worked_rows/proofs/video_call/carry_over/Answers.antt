@@ -1,15 +1,14 @@
-use Rattle.std.proofs.Common.{◌≡◌, ℕ, ◌∙◌, sym, ap, arith, Bool, true, false, ◌&&◌, List, subst, length, [], ◌∷◌}
+use Rattle.std.proofs.Common.{◌≡◌, ◌∙◌, sym, true, ◌&&◌, List, subst, length, [], ◌∷◌}
 use Rattle.std.specs.Prelude.{◌==◌, slice_get}
-use Rattle.std.proofs.lemmas.Bool.Decides.{nat_tests}
 use Rattle.rtp_media_runs.specs.declared.schedule.Played.{Played}
 use Rattle.rtp_media_schedules.specs.Hearing.{EndsSilent, handed_out}
-use Rattle.rtp_media_streams.specs.Sending.{Sample, Sending}
+use Rattle.rtp_media_streams.specs.Sending.{Sending}
 use Rattle.rtp_media_ends.specs.Ends.{sender_at}
-use Rattle.rtp_media_runs.specs.Schedules.{Source, is_repaired, played, poll_answers, source_of}
+use Rattle.rtp_media_runs.specs.Schedules.{Source, is_repaired, poll_answers, source_of}
 use Rattle.worked_rows.specs.Call.{opened_to_hold}
 use Rattle.worked_rows.specs.VideoCall.{is_received}
 use Rattle.worked_rows.proofs.Three.{ends-silent}
-use Rattle.worked_rows.proofs.VideoFrame.{answered-made, frame-out, frame-tame, repair_first}
+use Rattle.worked_rows.proofs.VideoFrame.{answered-made, frame-out, frame-tame}
 use Rattle.worked_rows.proofs.video_call.carry_over.Goals as goal
 
 pub returns : goal.returns
