@@ -166,7 +166,7 @@ def interfaces():
     return out
 
 
-def ran(program, capture, arguments, most=None):
+def ran(program, capture, arguments, most=None, name=f"{OWN:08x}-111.opus"):
     """The run, within this much of memory if it is given: its status, what it says, its seconds of a processor and its
     greatest memory; and the stream's file."""
     with tempfile.TemporaryDirectory() as folder:
@@ -181,7 +181,7 @@ def ran(program, capture, arguments, most=None):
                                  stdout=open(f"{folder}/said", "wb"), stderr=subprocess.STDOUT, preexec_fn=limit_it)
         _, status, used = os.wait4(child.pid, 0)
         child.returncode = os.waitstatus_to_exitcode(status)
-        seconds, found = used.ru_utime + used.ru_stime, Path(folder, "found", f"{OWN:08x}-111.opus")
+        seconds, found = used.ru_utime + used.ru_stime, Path(folder, "found", name)
         said = Path(folder, "said").read_text(errors="replace")
         return child.returncode, said, seconds, 1024 * used.ru_maxrss, found.read_bytes() if found.exists() else b""
 
@@ -272,15 +272,58 @@ def bundled_only(counts, build, program):
             counts.check(f"bundled only, {build}: {wanted}", status == wanted, f"{status}: {said[-300:]}")
 
 
+SETS = [b"\x67\x42\xc0\x1f\xd9", b"\x68\xce\x3c\x80"]
+LIST = files.listed(SETS)
+# Values of `sprop-parameter-sets`: nothing; no base64, not padded, of another alphabet, with a blank; units of nothing;
+# a slice, a unit of one byte, and one with a start code; and lists of a megabyte.
+NO_SETS = ["", "====", "Z0LAH9k", LIST[:-1], "Z0L-H9k_", LIST.replace(",", ", "), LIST + ",", ",", ",,,", "ZYiE",
+           "Zw==", LIST + "," + files.listed([b"\x67\0\0\1\x65"]), "A" * 1_000_000, "," * 1_000_000,
+           ",".join([LIST] * 60_000)]
+
+
+def session_sets(counts, build, program):
+    """Parameter sets of a session text begin the file of a stream without; those that can't be read are told, and the
+    file is as without them."""
+    nals = [b"\x65\x88\x84", b"\x41\x9a\2"]
+    capture = pcap_of(plain(files.rtp(91, 96, n, 3000 * n, 1, nal)) for n, nal in enumerate(nals))
+    for place, value in enumerate([LIST, *NO_SETS]):
+        lines = ["m=video 9 RTP/AVP 96", "a=rtpmap:96 H264/90000", f"a=fmtp:96 sprop-parameter-sets={value}"]
+        wanted = b"".join(b"\0\0\0\1" + nal for nal in (SETS if place == 0 else []) + nals)
+        with tempfile.NamedTemporaryFile("w", suffix=".sdp") as text:
+            text.write("\r\n".join(TEXT[:4] + lines + [""]))
+            text.flush()
+            arguments = ["--sdp", text.name, "--mkv", "all.mkv"]
+            name = f"sets {place} of a text, {build}"
+            status, said, seconds, memory, found = ran(program, capture, arguments, None, "0000005b-96.h264")
+            counts.check(f"{name} end with 0", status == 0, f"{status}: {said[-300:]}")
+            counts.check(f"{name} are told", ("sets are passed over" in said) == (place > 0), said[-300:])
+            counts.check(f"{name} begin the file", found == wanted, found.hex()[:300])
+            counts.check(f"{name} take at most {SECONDS} s", seconds <= SECONDS, f"{seconds:.1f} s")
+            counts.check(f"{name} take at most 200 MB", memory <= BYTES, f"{memory / 1e6:.0f} MB")
+
+
+def of_sources(count):
+    """Two packets of each SSRC."""
+    return [plain(packet(n, 1 + number)) for number in range(count) for n in range(2)]
+
+
+def of_repaired_sources(count):
+    """Two packets of each SSRC, and then a repair for each, which no text groups with one."""
+    frames = [plain(packet(2 * n, 1 + number, 96)) for number in range(count) for n in range(2)]
+    return frames + [plain(packet(1, 1 + count + number, 97, payload=b"\0\1\x10\0")) for number in range(count)]
+
+
 def many_sources(counts, build, program):
     """Twice as many SSRCs take about twice as long."""
-    took = []
-    for count in (10000, 20000):
-        frames = [plain(packet(n, 1 + number)) for number in range(count) for n in range(2)]
-        status, said, seconds, *_ = ran(program, pcap_of(frames), [*ROWS, "--list", "--most-streams", "30000"])
-        counts.check(f"{count} SSRCs, {build}", status == 0 and said.count("SSRC") == count, f"{status}: {said[-300:]}")
-        took.append(seconds)
-    counts.check(f"twice as many SSRCs, {build}", took[1] < 3 * took[0] + 0.2, f"{took[0]:.2f} and {took[1]:.2f} s")
+    for kind in (of_sources, of_repaired_sources):
+        name, took = kind.__name__.replace("_", " "), []
+        for count in (10000, 20000):
+            capture, arguments = pcap_of(kind(count)), [*ROWS, "--list", "--most-streams", "30000"]
+            status, said, seconds, *_ = ran(program, capture, arguments)
+            is_listed = said.count("SSRC") == count
+            counts.check(f"{count} {name}, {build}", status == 0 and is_listed, f"{status}: {said[-300:]}")
+            took.append(seconds)
+        counts.check(f"twice {name}, {build}", took[1] < 3 * took[0] + 0.2, f"{took[0]:.2f} and {took[1]:.2f} s")
 
 
 def pcap_of(frames):
@@ -298,6 +341,7 @@ def main():
         encrypted(counts, build, program)
         pieces(counts, build, program)
         bundled_only(counts, build, program)
+        session_sets(counts, build, program)
         many_sources(counts, build, program)
         status, said, *_ = ran(program, b"\x1f\x8b\x08" + b"\0" * 30, ROWS)
         counts.check(f"gzip is refused by name, {build}", status == 1 and "gzip" in said, f"{status}: {said}")

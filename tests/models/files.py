@@ -7,6 +7,7 @@
 
 Checksums of Ogg are by a table (RFC 3533 6, the CRC's table of its generator), lengths and positions by hand.
 """
+import base64
 import hashlib
 import os
 import struct
@@ -154,6 +155,8 @@ class Stream:
         self.datagrams, self.file, self.track = [], b"", None
         # Each unit's time in ticks after the first, whether it can be decoded alone, and its bytes in a track.
         self.units = []
+        # The parameter sets that only the session text has.
+        self.sets = []
 
 
 def vp8():
@@ -251,6 +254,75 @@ def h264():
     record += b"\1" + struct.pack(">H", len(pps)) + pps
     it.track = ("V_MPEG4/ISO/AVC", record, 0, 0, (30, 16))
     return it
+
+
+def code(number):
+    """A number of as many bits as it needs, less one, after as many zeros (H.265 9.2)."""
+    return number + 1, 2 * (number + 1).bit_length() - 1
+
+
+def escaped(unit):
+    """A unit with a byte of 3 after two zeros, where a byte of at most 3 would follow (H.265 7.4.1)."""
+    out, zeros = b"", 0
+    for byte in unit:
+        if zeros == 2 and byte < 4:
+            out, zeros = out + b"\3", 0
+        out, zeros = out + bytes([byte]), zeros + 1 if byte == 0 else 0
+    return out
+
+
+def coded(ssrc, pt, codec, ending, sets, nals):
+    """NAL units, each a picture in a packet, of which the first is a key frame, behind sets of the session text."""
+    it = Stream(ssrc, pt, codec, 90000, ending, 1, 0)
+    it.datagrams = [rtp(ssrc, pt, n, 3000 * n, 1, nal) for n, nal in enumerate(nals)]
+    it.units = [(3000 * n, n == 0, struct.pack(">I", len(nal)) + nal) for n, nal in enumerate(nals)]
+    it.file, it.sets = b"".join(b"\0\0\0\1" + nal for nal in sets + nals), sets
+    return it
+
+
+def listed(units):
+    """Units as session texts have them (RFC 6184 8.1)."""
+    return ",".join(base64.b64encode(unit).decode() for unit in units)
+
+
+# Main profile and its flags, progressive and of frames alone; level 2.
+H265_GENERAL = b"\1\x60\0\0\0\x90\0\0\0\0\0\x3c"
+# One temporal layer, which nests; set 0, colours at half, 64 by 40, of which 2 and 4 are cut off, all of 8 bits.
+H265_SPS = escaped(b"\x42\1" + fields((0, 4), (0, 3), (1, 1)) + H265_GENERAL + fields(
+    *[code(0), code(1), code(64), code(40), (1, 1), code(0), code(1), code(1), code(1)],
+    *[code(0), code(0), code(4), (1, 1)],
+))
+H265_SETS = [b"\x40\1\x0c\1\xff\xff", H265_SPS, b"\x44\1\xc1\x72", b"\x44\1\xa1\x73\x80"]
+
+
+def h265():
+    """Pictures whose parameter sets only the session text has, two of them of pictures. One is lost, and comes as a
+    repair that no text groups with the stream."""
+    nals = [b"\x26\1\xaf\x10", b"\2\1\xd0\x20", b"\2\1\xd0\x30\x31"]
+    it = coded(0xBBBBBBBB, 104, "H265", "h265", H265_SETS, nals)
+    del it.datagrams[1]
+    it.datagrams.append(rtp(0xBBBBBBCC, 107, 9, 3000, 1, struct.pack(">H", 1) + nals[1]))
+    it.repairs = 1
+    # Version; the general fields; no segments, no parallelism; colours, depths, rates; one layer that nests, lengths of
+    # four bytes; three kinds of sets.
+    record = b"\1" + H265_GENERAL + b"\xf0\0\xfc\xfd\xf8\xf8\0\0\x0f\3"
+    for kind, sets in ((32, H265_SETS[:1]), (33, H265_SETS[1:2]), (34, H265_SETS[2:])):
+        record += struct.pack(">BH", kind, len(sets)) + b"".join(struct.pack(">H", len(one)) + one for one in sets)
+    it.track = ("V_MPEGH/ISO/HEVC", record, 0, 0, (62, 36))
+    return it
+
+
+H266_SETS = [b"\0\x79\0\x0d\2", b"\0\x81\0\0\x48"]
+
+
+def h266():
+    """Pictures whose parameter sets only the session text has, as of a codec without a track."""
+    return coded(0xCCCCCCCC, 105, "H266", "h266", H266_SETS, [b"\0\x39\xc4", b"\0\1\xd0\x20"])
+
+
+def h264_untold():
+    """Pictures whose parameter sets in the session text can't be read."""
+    return coded(0xDDDDDDDD, 106, "H264", "h264", [], [b"\x65\x88\x84", b"\x41\x9a\2"])
 
 
 def opus_head(channels):
@@ -423,20 +495,28 @@ o=- 0 0 IN IP4 127.0.0.1
 s=-
 c=IN IP4 127.0.0.1
 t=0 0
-m=video 41002 RTP/AVP 96 98 45 102 103 111
+m=video 41002 RTP/AVP 96 98 45 102 103 104 105 106 107 111
 a=rtpmap:96 VP8/90000
 a=rtpmap:98 VP9/90000
 a=rtpmap:45 AV1/90000
 a=rtpmap:102 H264/90000
-a=fmtp:102 packetization-mode=1; profile-level-id=42c01f
+a=fmtp:102 packetization-mode=1; sprop-parameter-sets=Z0LAH9k=,aM48gA==; profile-level-id=42c01f
 a=rtpmap:103 rtx/90000
 a=fmtp:103 apt=102
+a=rtpmap:104 H265/90000
+a=fmtp:104 sprop-vps={}; sprop-sps={}; sprop-pps={}
+a=rtpmap:107 rtx/90000
+a=fmtp:107 apt=104
+a=rtpmap:105 H266/90000
+a=fmtp:105 Sprop-PPS={}; sprop-sps={}
+a=rtpmap:106 H264/90000
+a=fmtp:106 packetization-mode=1; sprop-parameter-sets=Z0LAH9k=,aM48gA=
 a=ssrc-group:FID 1145324612 1145324629
 m=text 41004 RTP/AVP 98
 a=rtpmap:98 t140/1000
 m=audio 41002/2 RTP/AVPF 0 8 9 111
 a=rtpmap:111 opus/48000/2
-"""
+""".format(*map(listed, (H265_SETS[:1], H265_SETS[1:2], H265_SETS[2:], H266_SETS[1:], H266_SETS[:1])))
 
 
 def captures():
@@ -445,7 +525,7 @@ def captures():
         ("rows.pcapng", pcapng, [vp8(), vp9(), av1(), h264()]),
         ("rows.pcap", pcap_of_nanoseconds, [opus(), PCMU()]),
         ("rows.rtpdump", rtpdump, [PCMA(), G722()]),
-        ("rows.hex", lines, [amr_wb()]),
+        ("rows.hex", lines, [amr_wb(), h265(), h266(), h264_untold()]),
         ("rows.tunnels.pcap", tunnels.pcap, [opus_inside()]),
     ]
     for name, write, streams in sets:
@@ -533,6 +613,8 @@ def told_of(it, times, has_ports):
         f" 0 unreadable, {it.units[-1][0] * 1000 // it.rate} ms"
     )
     print(f"    from {times[0]} to {times[len(media) - 1]} s by the capture's clock")
+    if it.sets:
+        print(f"    it begins with {len(it.sets)} parameter sets of a session text")
     name = f"./{it.ssrc:08x}{middle}-{it.pt}.{it.ending}"
     print(f"    {name}: {len(it.file)} bytes, SHA-256 {hashlib.sha256(it.file).hexdigest()}")
 
@@ -560,7 +642,9 @@ def told():
         told_of(it, times, has_ports)
     whole = in_one_file([one for one, _ in streams if one[0].track])
     print(f"call.mkv: {len(whole)} bytes, SHA-256 {hashlib.sha256(whole).hexdigest()}")
-    print("  without SSRC 99999999: its codec has no track, or its units lack what a track needs")
+    for (it, _), _ in streams:
+        if not it.track:
+            print(f"  without SSRC {it.ssrc:08x}: its codec has no track, or its units lack what a track needs")
     # of a browser's capture five fragments are the same, whose others never come
     counts = [sum(pair) for pair in zip(tunnels.COUNTS, (1, 4, 0, 0))]
     print(f"packets passed over: 5 without UDP, {sum(counts)} fragments, 5 cut, 0 malformed")

@@ -16,6 +16,9 @@ use std::io;
 // What an encoder of Opus needs in front, at 48,000 samples a second, and a player skips.
 pub(crate) const PRE_SKIP: u16 = 312;
 
+// What is in front of a NAL unit in a byte stream (H.264, H.265 and H.266, Annex B).
+const START_CODE: [u8; 4] = [0, 0, 0, 1];
+
 // The most bytes of sound that a WAVE file has room for, and one more.
 const MOST_SOUND: u64 = 2_147_483_648;
 
@@ -39,6 +42,8 @@ struct Source<'a> {
     rt: &'a HostRuntime,
     alloc: Global,
     stream: &'a Stream,
+    /// The parameter sets that its units lack.
+    sets: &'a [Vec<u8>],
 }
 
 impl<'a> Source<'a> {
@@ -89,8 +94,13 @@ impl<'a> Source<'a> {
         Ok(())
     }
 
-    /// Writes units that begin with start codes one after the other.
+    /// Writes the parameter sets that the units lack, then the units, which begin with start codes.
     fn write_annex_b(&self, output: &mut Output) -> anyhow::Result<()> {
+        for set in self.sets {
+            output.waiting.extend_from_slice(&START_CODE)?;
+            output.waiting.extend_from_slice(set)?;
+            output.flow()?;
+        }
         let mut units = self.units()?;
         for _ in 0..self.stream.units.count {
             let Some(unit) = units.next()? else {
@@ -233,10 +243,11 @@ impl<'a> Source<'a> {
     }
 }
 
-/// Writes the file of a stream under this name.
+/// Writes the file of a stream, with the parameter sets that its units lack, under this name.
 pub(crate) fn write_file(
     rt: &HostRuntime,
     stream: &Stream,
+    sets: &[Vec<u8>],
     name: &str,
     silence: &mut Silence,
     is_forced: bool,
@@ -249,6 +260,7 @@ pub(crate) fn write_file(
         rt,
         alloc: rt.alloc(),
         stream,
+        sets,
     };
     let written = source.write(&part, silence);
     settle(rt, &part, name, written)

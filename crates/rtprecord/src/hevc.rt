@@ -2,6 +2,7 @@
 
 use crate::bits::Bits;
 use crate::sizes::{Size, cropped, without_emulation};
+use crate::tracks::{at_most, push_sets};
 use std::alloc::{AllocError, Global};
 
 /// What a set of sequence parameters says (H.265 7.3.2.2).
@@ -100,7 +101,11 @@ pub(crate) fn hevc_sequence(alloc: Global, sps: &[u8]) -> Result<Option<HevcSequ
 impl HevcSequence {
     /// What a decoder is told in front (ISO/IEC 14496-15 8.3.3.1): units after their lengths in four bytes, and these
     /// sets of parameters.
-    pub(crate) fn told(&self, alloc: Global, sets: [&[u8]; 3]) -> Result<Vec<u8>, AllocError> {
+    pub(crate) fn told(
+        &self,
+        alloc: Global,
+        kinds: [&[Vec<u8>]; 3],
+    ) -> Result<Vec<u8>, AllocError> {
         let mut out = Vec::from_slice(alloc, &[1u8])?;
         out.extend_from_slice(&self.general)?;
         out.extend_from_slice(&[0xf0u8, 0, 0xfc])?;
@@ -113,12 +118,12 @@ impl HevcSequence {
         ])?;
         let nested = if self.is_nested { 4u8 } else { 0 };
         out.extend_from_slice(&[(self.layers % 8) << 3 | nested | 3, 3])?;
-        for (place, set) in sets.iter().enumerate() {
-            let kind = 32u8.saturating_add(place.min(2) as u8);
-            let len = u16::try_from(set.len()).unwrap_or(u16::MAX);
-            out.extend_from_slice(&[kind, 0, 1])?;
-            out.extend_from_slice(&len.to_be_bytes())?;
-            out.extend_from_slice(set)?;
+        for (place, sets) in kinds.iter().enumerate() {
+            let sets = at_most(sets, 65535);
+            let count = u16::try_from(sets.len()).unwrap_or(u16::MAX);
+            out.push(32u8.saturating_add(place.min(2) as u8))?;
+            out.extend_from_slice(&count.to_be_bytes())?;
+            push_sets(sets, &mut out)?;
         }
         Ok(out)
     }

@@ -32,10 +32,13 @@ mod rows;
 mod secrecy;
 mod sections;
 mod seen;
+mod session_sets;
+mod sets;
 mod sizes;
 mod source;
 mod stream;
 mod tracks;
+mod typed;
 mod units;
 mod writing;
 

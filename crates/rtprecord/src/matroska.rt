@@ -1,6 +1,7 @@
 //! Streams in one Matroska file, each as far after the others as it began.
 
 use crate::clocks::{arrived, microseconds, next_ticks, reported};
+use crate::recorder::Recorder;
 use crate::reports::SenderReport;
 use crate::stream::Stream;
 use crate::tracks::{Track, framed, track_of};
@@ -229,15 +230,15 @@ fn let_go(output: &mut Output, is_written: bool) -> io::Result<()> {
 /// The streams that have a track; the others are left out.
 fn parts_of<'a>(
     alloc: Global,
-    streams: &'a BTreeMap<u64, Stream>,
+    recorder: &'a Recorder,
     left_out: &mut Vec<u32>,
 ) -> Result<Vec<Part<'a>>, AllocError> {
     let mut parts = Vec::new(alloc);
-    for stream in streams.values() {
+    for stream in recorder.streams.values() {
         if stream.units.count == 0 || stream.is_encrypted {
             continue;
         }
-        match track_of(alloc, stream)? {
+        match track_of(alloc, stream, recorder.rows.sets.before(stream))? {
             Some(track) if parts.len() < MOST_TRACKS => parts.push(Part {
                 stream,
                 track,
@@ -249,18 +250,17 @@ fn parts_of<'a>(
     Ok(parts)
 }
 
-/// Writes the Matroska file of streams under this name.
+/// Writes the Matroska file of all streams under this name.
 pub(crate) fn write_mkv(
     rt: &HostRuntime,
-    streams: &BTreeMap<u64, Stream>,
-    reports: &BTreeMap<u32, SenderReport>,
+    recorder: &Recorder,
     name: &str,
     is_forced: bool,
 ) -> anyhow::Result<Matroska> {
     let alloc = rt.alloc();
     let mut left_out = Vec::new(alloc);
-    let mut parts = parts_of(alloc, streams, &mut left_out)?;
-    set_begins(&mut parts, reports);
+    let mut parts = parts_of(alloc, recorder, &mut left_out)?;
+    set_begins(&mut parts, &recorder.reports);
     let mut start = i64::MAX;
     for part in &parts {
         start = start.min(part.began);

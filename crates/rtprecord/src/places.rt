@@ -63,6 +63,11 @@ impl Index {
 }
 
 impl Recorder {
+    /// The number of the source of an SSRC, if there is one.
+    pub(crate) fn known_source(&self, ssrc: Ssrc, port: Option<u16>) -> Option<u64> {
+        self.source_index.number(source_key(ssrc, port))
+    }
+
     /// The number of the source of an SSRC, which is made if there is none; None if there are too many.
     pub(crate) fn source_place(
         &mut self,
@@ -123,6 +128,11 @@ impl Recorder {
         };
         self.source_index
             .remove(source_key(source.ssrc, source.port));
+        for pt in 0..128u8 {
+            if source.has_type(pt) {
+                self.typed.remove(source.port, pt, number);
+            }
+        }
         for (stream, pt) in &source.streams {
             let _ = self.streams.remove(stream);
             self.stream_index.remove(stream_key(number, *pt));

@@ -56,7 +56,7 @@ pub(crate) fn read(rt: &HostRuntime, name: &str, recorder: &mut Recorder) -> any
         waiting = Vec::from_slice(alloc, piece.get(taken..).unwrap_or(&[]))?;
         progress.tell(rt, done.saturating_add(taken), recorder)?;
         done = 0;
-        recorder.put_away(rt)?;
+        recorder.put_away(rt);
         if is_end || waiting.len() >= MOST_WAITING {
             break;
         }

@@ -10,6 +10,8 @@ use crate::secrecy::SecuredPorts;
 use crate::seen::{Seen, note};
 use crate::source::Source;
 use crate::stream::Stream;
+use crate::typed::TypedSources;
+use crate::units::UnitFiles;
 use h26x_payload::{Codec, SeqNo};
 use media_files::captures::{DatagramKind, PassedOver, kind_of, relayed_in};
 use payload_core::RedDecoder;
@@ -45,8 +47,8 @@ pub(crate) struct Recorder {
     pub(crate) streams: BTreeMap<u64, Stream>,
     pub(crate) source_index: Index,
     pub(crate) stream_index: Index,
-    /// The folder of the units that are put away.
-    folder: String,
+    pub(crate) typed: TypedSources,
+    unit_files: UnitFiles,
     /// What is seen without a row.
     pub(crate) seen: Vec<Seen>,
     /// The first report of each sender, by its SSRC.
@@ -101,7 +103,8 @@ impl Recorder {
             streams: BTreeMap::new(alloc),
             source_index: Index::new(alloc),
             stream_index: Index::new(alloc),
-            folder,
+            typed: TypedSources::new(alloc),
+            unit_files: UnitFiles::new(folder),
             seen: Vec::new(alloc),
             reports: BTreeMap::new(alloc),
             secured: SecuredPorts::new(alloc),
@@ -245,7 +248,9 @@ impl Recorder {
         let (Some((row, payload)), Some(source)) = (found, self.sources.get_mut(&place)) else {
             return Ok(self.damage(place));
         };
-        source.note_type(row.pt);
+        if source.note_type(row.pt) {
+            self.typed.add(source.port, row.pt, place)?;
+        }
         let Some(place) = self.stream_place(place, row)? else {
             count(&mut self.passed.too_many);
             return Ok(());
@@ -266,15 +271,12 @@ impl Recorder {
     }
 
     /// Puts away what streams have in memory, if that is much.
-    pub(crate) fn put_away(&mut self, rt: &HostRuntime) -> Result<(), AllocError> {
-        for (number, stream) in self.streams.iter_mut() {
+    pub(crate) fn put_away(&mut self, rt: &HostRuntime) {
+        for stream in self.streams.values_mut() {
             if stream.units.are_many() {
-                let folder = self.folder.as_str();
-                let name = format!(in self.alloc; "{folder}/rtprecord.{number}.units.part")?;
-                stream.units.put_away(rt, name);
+                stream.units.put_away(rt, &mut self.unit_files);
             }
         }
-        Ok(())
     }
 
     /// Removes what was put away.

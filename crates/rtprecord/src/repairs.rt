@@ -8,6 +8,9 @@ use crate::row::Row;
 use rtp_wire::{RtpHeader, Ssrc, unpad_payload, wrapped_in};
 use std::alloc::AllocError;
 
+// How many sources are asked at most which of them misses a packet.
+const MOST_ASKED: usize = 256;
+
 impl Recorder {
     /// Takes a packet of retransmissions as what it wraps (RFC 4588 4).
     pub(crate) fn take_repair(
@@ -48,26 +51,27 @@ impl Recorder {
         self.take_payload(place, row, &taken, payload)
     }
 
-    /// Where the source is that these are the repairs of: the one that a text groups them with, else the only one
-    /// with this type, else the only one of these that misses the number.
+    /// The number of the source that these are the repairs of: the one that a text groups them with, else the only one
+    /// with this type, else the only one of these that misses the packet.
     fn repaired_place(&self, ssrc: Ssrc, port: Option<u16>, pt: u8, low: u16) -> Option<u64> {
-        let grouped = self.rows.repaired_by(ssrc.get());
-        let mut with_type = Found::None;
+        if let Some(stream) = self.rows.repaired_by(ssrc.get()) {
+            return self.known_source(Ssrc::from(stream), port);
+        }
+        let numbers = self.typed.with(port, pt)?;
+        if numbers.len() == 1 {
+            return numbers.first().copied();
+        }
+        if numbers.len() > MOST_ASKED {
+            return None;
+        }
         let mut missing = Found::None;
-        for (place, source) in self.sources.iter() {
-            if source.port != port {
-                continue;
-            }
-            if grouped == Some(source.ssrc.get()) {
-                return Some(*place);
-            }
-            if grouped.is_none() && source.has_type(pt) {
-                with_type = with_type.and(*place);
+        for number in numbers {
+            if let Some(source) = self.sources.get(number) {
                 if source.misses(low) {
-                    missing = missing.and(*place);
+                    missing = missing.and(*number);
                 }
             }
         }
-        with_type.only().or(missing.only())
+        missing.only()
     }
 }

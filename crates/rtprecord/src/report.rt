@@ -76,6 +76,7 @@ fn print_times(rt: &HostRuntime, stream: &Stream) -> io::Result<()> {
 fn print_stream(
     rt: &HostRuntime,
     stream: &Stream,
+    sets: &[Vec<u8>],
     arguments: &Arguments,
     silence: &mut Silence,
 ) -> anyhow::Result<bool> {
@@ -97,7 +98,13 @@ fn print_stream(
     };
     let (out, name) = (arguments.out.as_str(), name_of(rt.alloc(), stream, ending)?);
     let name = format!(in rt.alloc(); "{out}/{name}")?;
-    match write_file(rt, stream, &name, silence, arguments.is_forced) {
+    if !sets.is_empty() {
+        println!(*rt;
+            "    it begins with {} parameter sets of a session text",
+            sets.len()
+        )?;
+    }
+    match write_file(rt, stream, sets, &name, silence, arguments.is_forced) {
         Ok(written) => {
             let (len, sum) = (written.len, written.sum);
             println!(*rt; "    {name}: {len} bytes, SHA-256 {sum}")?;
@@ -118,13 +125,7 @@ fn print_mkv(rt: &HostRuntime, recorder: &Recorder, arguments: &Arguments) -> an
     if arguments.is_list || recorder.streams.values().all(|stream| stream.is_encrypted) {
         return Ok(true);
     }
-    match write_mkv(
-        rt,
-        &recorder.streams,
-        &recorder.reports,
-        name,
-        arguments.is_forced,
-    ) {
+    match write_mkv(rt, recorder, name, arguments.is_forced) {
         Ok(file) => {
             let (len, sum) = (file.written.len, file.written.sum);
             println!(*rt; "{name}: {len} bytes, SHA-256 {sum}")?;
@@ -251,7 +252,8 @@ pub(crate) fn print(
         print_source(rt, source)?;
         for (number, _) in &source.streams {
             if let Some(stream) = recorder.streams.get(number) {
-                is_whole = print_stream(rt, stream, arguments, &mut silence)? && is_whole;
+                let sets = recorder.rows.sets.before(stream);
+                is_whole = print_stream(rt, stream, sets, arguments, &mut silence)? && is_whole;
             }
         }
     }

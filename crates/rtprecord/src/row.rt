@@ -17,6 +17,8 @@ pub(crate) struct Row {
     pub(crate) channels: u8,
     /// The type that it repairs, of retransmissions (RFC 4588 8.6).
     pub(crate) repairs: Option<u8>,
+    /// The place of its parameter sets among those of the texts.
+    pub(crate) sets: Option<usize>,
     is_octet_aligned: bool,
     sprop_max_don_diff: Option<u16>,
 }
@@ -62,6 +64,7 @@ impl Row {
             rate: Frequency::new(rate.parse::<u32>().ok()?)?,
             channels: channels.parse::<u8>().ok()?,
             repairs: None,
+            sets: None,
             is_octet_aligned,
             sprop_max_don_diff: None,
         })
@@ -82,6 +85,7 @@ impl Row {
             rate: Frequency::NINETY_KHZ,
             channels: 1,
             repairs: Some(repairs),
+            sets: None,
             is_octet_aligned: false,
             sprop_max_don_diff: None,
         }
@@ -101,6 +105,7 @@ impl Row {
             rate: spec.rtp_clock_rate(),
             channels: spec.channels.unwrap_or(1),
             repairs: None,
+            sets: None,
             is_octet_aligned: spec.format.octet_align.unwrap_or(false),
             sprop_max_don_diff: spec.format.sprop_max_don_diff,
         }

@@ -6,9 +6,11 @@ use crate::sections::{
     MediaHead, Ports, SectionFault, SessionText, any_begins, as_browsers_write, cut, head_of,
     is_refused, ports_of, repaired_pair,
 };
+use crate::session_sets::SessionSets;
 use anyhow::bail;
 use sdp_formats::{RtpParams, SdpError, SdpOffer, faulty_line};
 use std::alloc::{AllocError, Global};
+use std::collections::BTreeMap;
 use std::{fs, io};
 
 /// All payload types, which streams have which repairs, and what says that media is encrypted.
@@ -17,8 +19,10 @@ pub(crate) struct Rows {
     /// What the arguments say, which counts more than what a text says.
     given: Vec<Row>,
     rows: Vec<Row>,
-    /// The SSRCs of a stream and of its repairs.
-    pairs: Vec<(u32, u32)>,
+    /// The SSRC of the stream that an SSRC repairs.
+    repaired: BTreeMap<u32, u32>,
+    /// The parameter sets that the texts say.
+    pub(crate) sets: SessionSets,
     /// Whether a text has a fingerprint or a profile of encrypted media.
     pub(crate) is_secure: bool,
 }
@@ -52,12 +56,16 @@ fn elsewhere(rows: &[Row], pt: u8) -> Option<Row> {
         if row.pt != pt {
             continue;
         }
+        let mut like = row.on_any_port();
         if let Some(other) = found {
             if !row.is_like(&other) {
                 return None;
             }
+            if row.sets != other.sets {
+                like.sets = None;
+            }
         }
-        found = Some(row.on_any_port());
+        found = Some(like);
     }
     found
 }
@@ -105,12 +113,7 @@ impl Rows {
 
     /// The stream that a text says these are the repairs of.
     pub(crate) fn repaired_by(&self, repairs: u32) -> Option<u32> {
-        for pair in self.pairs.iter().rev() {
-            if pair.1 == repairs {
-                return Some(pair.0);
-            }
-        }
-        None
+        self.repaired.get(&repairs).copied()
     }
 
     /// Takes the rows of a section, written as browsers write it.
@@ -142,8 +145,8 @@ impl Rows {
     /// Takes which streams have which repairs.
     fn take_pairs(&mut self, section: &[&str]) -> Result<(), AllocError> {
         for line in section {
-            if let Some(pair) = repaired_pair(line) {
-                self.pairs.push(pair)?;
+            if let Some((stream, repairs)) = repaired_pair(line) {
+                self.repaired.insert(repairs, stream)?;
             }
         }
         Ok(())
@@ -209,7 +212,9 @@ impl Rows {
         }
         for section in sections {
             let lines = section.lines.as_slice();
+            let from = self.rows.len();
             let why = self.take_section(rt.alloc(), session, lines)?;
+            self.sets.take(rt, name, section, &mut self.rows, from)?;
             if let (Some(why), Some(line)) = (why, lines.first()) {
                 let number = section.number;
                 eprintln!(*rt;
@@ -267,7 +272,8 @@ pub(crate) fn rows_of(rt: &HostRuntime, arguments: &Arguments) -> anyhow::Result
     let mut rows = Rows {
         given: Vec::new(rt.alloc()),
         rows: Vec::new(rt.alloc()),
-        pairs: Vec::new(rt.alloc()),
+        repaired: BTreeMap::new(rt.alloc()),
+        sets: SessionSets::new(rt.alloc()),
         is_secure: false,
     };
     for name in &arguments.texts {

@@ -48,11 +48,13 @@ impl Source {
         }
     }
 
-    /// Notes a payload type of its packets.
-    pub(crate) fn note_type(&mut self, pt: u8) {
-        if pt < 128 {
-            self.types[pt as usize] = true;
+    /// Notes a payload type of its packets; returns whether it is a new one.
+    pub(crate) fn note_type(&mut self, pt: u8) -> bool {
+        if pt >= 128 || self.types[pt as usize] {
+            return false;
         }
+        self.types[pt as usize] = true;
+        true
     }
 
     /// Whether its packets have had a payload type.

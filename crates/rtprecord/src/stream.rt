@@ -174,7 +174,7 @@ impl Stream {
         if codec == Codec::Vp9 {
             push_superframe_index(&sizes, &mut bytes)?;
         }
-        self.heads.note(self.alloc, codec, &bytes)?;
+        self.heads.note(self.alloc, codec, is_told, &bytes)?;
         let is_key = match codec {
             Codec::Vp9 => is_vp9_key(&bytes),
             codec => codec.is_audio() || is_told,

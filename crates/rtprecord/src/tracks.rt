@@ -32,27 +32,40 @@ impl Track {
     }
 }
 
-/// Writes a parameter set after its length.
-fn push_set(set: &[u8], out: &mut Vec<u8>) -> Result<(), AllocError> {
-    let len = u16::try_from(set.len()).unwrap_or(u16::MAX);
-    out.extend_from_slice(&len.to_be_bytes())?;
-    out.extend_from_slice(set)
+/// Writes parameter sets, each after its length.
+pub(crate) fn push_sets(sets: &[Vec<u8>], out: &mut Vec<u8>) -> Result<(), AllocError> {
+    for set in sets {
+        let len = u16::try_from(set.len()).unwrap_or(u16::MAX);
+        out.extend_from_slice(&len.to_be_bytes())?;
+        out.extend_from_slice(set)?;
+    }
+    Ok(())
+}
+
+/// The first of them, if they are more than so many.
+pub(crate) fn at_most(sets: &[Vec<u8>], most: usize) -> &[Vec<u8>] {
+    sets.get(..most).unwrap_or(sets)
 }
 
 /// The track of H.264: what its first parameter sets say, and these (ISO/IEC 14496-15 5.3.3).
 fn h264_track(alloc: Global, heads: &Heads) -> Result<Option<Track>, AllocError> {
-    let (Some(profile), Some(size)) = (heads.sps.get(1..4), heads.size) else {
+    let Some(first) = heads.sps.first() else {
+        return Ok(None);
+    };
+    let (Some(profile), Some(size)) = (first.get(1..4), heads.size) else {
         return Ok(None);
     };
     if heads.pps.is_empty() {
         return Ok(None);
     }
+    let (sps, pps) = (at_most(&heads.sps, 31), at_most(&heads.pps, 255));
     let mut private = Vec::from_slice(alloc, &[1u8])?;
     private.extend_from_slice(profile)?;
-    private.extend_from_slice(&[0xffu8, 0xe1])?;
-    push_set(&heads.sps, &mut private)?;
-    private.push(1)?;
-    push_set(&heads.pps, &mut private)?;
+    let count = u8::try_from(sps.len()).unwrap_or(31);
+    private.extend_from_slice(&[0xffu8, 0xe0 | count])?;
+    push_sets(sps, &mut private)?;
+    private.push(u8::try_from(pps.len()).unwrap_or(u8::MAX))?;
+    push_sets(pps, &mut private)?;
     Ok(Some(Track::of_pictures(MkvCodec::Avc, size, private)))
 }
 
@@ -107,10 +120,21 @@ fn pictures(codec: MkvCodec, heads: &Heads, private: Vec<u8>) -> Option<Track> {
     Some(Track::of_pictures(codec, heads.size?, private))
 }
 
-/// The track of a stream; None if its codec has none here, or its units don't say what it needs.
-pub(crate) fn track_of(alloc: Global, stream: &Stream) -> Result<Option<Track>, AllocError> {
-    let heads = &stream.heads;
-    match stream.row.codec {
+/// The track of a stream, with the parameter sets that its units lack; None if its codec has none here, or neither says
+/// what it needs.
+pub(crate) fn track_of(
+    alloc: Global,
+    stream: &Stream,
+    sets: &[Vec<u8>],
+) -> Result<Option<Track>, AllocError> {
+    let codec = stream.row.codec;
+    let told = Heads::of_sets(alloc, codec, sets)?;
+    let heads = if told.lack_sets(codec) {
+        &stream.heads
+    } else {
+        &told
+    };
+    match codec {
         Codec::Vp8 => Ok(pictures(MkvCodec::Vp8, heads, Vec::new(alloc))),
         Codec::Vp9 => Ok(pictures(MkvCodec::Vp9, heads, Vec::new(alloc))),
         Codec::Av1 => Ok(pictures(MkvCodec::Av1, heads, heads.sequence.clone()?)),

@@ -2,7 +2,7 @@
 
 use std::alloc::{AllocError, Global};
 use std::fs::{File, OpenOptions};
-use std::io::{BufReader, Read, Write};
+use std::io::{BufReader, ErrorKind, Read, Write};
 use std::{fs, io};
 
 // How many bytes of units wait in memory for the file.
@@ -40,6 +40,14 @@ pub(crate) struct Units {
     fault: Option<io::Error>,
 }
 
+/// The files of units, in a folder that other runs may have theirs in.
+#[derive(Drop)]
+pub(crate) struct UnitFiles {
+    folder: String,
+    /// The number of the next name that is tried.
+    next: u64,
+}
+
 /// The units that are left to read.
 #[derive(Drop)]
 pub(crate) struct UnitReader<'a> {
@@ -48,6 +56,29 @@ pub(crate) struct UnitReader<'a> {
     in_file: u64,
     waiting: &'a [u8],
     left: u64,
+}
+
+impl UnitFiles {
+    /// No files of a folder yet.
+    pub(crate) fn new(folder: String) -> UnitFiles {
+        UnitFiles { folder, next: 0 }
+    }
+
+    /// A new file, and its name, which nothing had before.
+    fn create(&mut self, rt: &HostRuntime) -> io::Result<(String, File)> {
+        let (mut options, folder) = (OpenOptions::new(), self.folder.as_str());
+        let options = options.write(true).create_new(true);
+        for number in self.next..u64::MAX {
+            self.next = number + 1;
+            let name = format!(in rt.alloc(); "{folder}/rtprecord.{number}.units.part")?;
+            match options.open(rt, name.as_str()) {
+                Ok(file) => return Ok((name, file)),
+                Err(fault) if fault.kind() == ErrorKind::AlreadyExists => {}
+                Err(fault) => return Err(fault),
+            }
+        }
+        Err(ErrorKind::AlreadyExists.into())
+    }
 }
 
 impl Units {
@@ -89,22 +120,30 @@ impl Units {
         self.waiting.len() >= MOST_WAITING
     }
 
-    /// Puts the units that wait into the file of this name. If that can't be done, no more are kept.
-    pub(crate) fn put_away(&mut self, rt: &HostRuntime, name: String) {
-        let written = match &self.file {
-            Some(file) => append(rt, file.as_str(), &self.waiting),
-            None => create(rt, name.as_str(), &self.waiting),
-        };
+    /// Puts the units that wait into the file, at first into a new one. If that can't be done, no more are kept.
+    pub(crate) fn put_away(&mut self, rt: &HostRuntime, files: &mut UnitFiles) {
+        let written = self.write_waiting(rt, files);
         self.waiting = Vec::new(self.alloc);
-        if self.file.is_none() {
-            self.file = Some(name);
-        }
         self.in_file = self.count;
         if let Err(fault) = written {
             self.fault = Some(fault);
             self.is_kept = false;
             self.remove(rt);
         }
+    }
+
+    /// Writes the units that wait to the end of the file, or into a new one.
+    fn write_waiting(&mut self, rt: &HostRuntime, files: &mut UnitFiles) -> io::Result<()> {
+        let mut file = match &self.file {
+            Some(name) => OpenOptions::new().append(true).open(rt, name.as_str())?,
+            None => {
+                let (name, file) = files.create(rt)?;
+                self.file = Some(name);
+                file
+            }
+        };
+        file.write_all(&self.waiting)?;
+        file.flush()
     }
 
     /// Why they couldn't be put away.
@@ -133,25 +172,6 @@ impl Units {
             left: self.count,
         })
     }
-}
-
-/// Writes the first units into a new file, in place of one that was left.
-fn create(rt: &HostRuntime, name: &str, bytes: &[u8]) -> io::Result<()> {
-    if fs::symlink_metadata(rt, name).is_ok() {
-        fs::remove_file(rt, name)?;
-    }
-    let mut options = OpenOptions::new();
-    let mut file = options.write(true).create_new(true).open(rt, name)?;
-    file.write_all(bytes)?;
-    file.flush()
-}
-
-/// Writes more units at the end of the file.
-fn append(rt: &HostRuntime, name: &str, bytes: &[u8]) -> io::Result<()> {
-    let mut options = OpenOptions::new();
-    let mut file = options.append(true).open(rt, name)?;
-    file.write_all(bytes)?;
-    file.flush()
 }
 
 /// The unit of what is in front of it, whose bytes aren't read yet, and how many these are.
