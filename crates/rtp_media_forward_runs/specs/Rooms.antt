@@ -64,12 +64,11 @@ abbrev pub parts_in : Room → List Part
 parts_in r = parts_of (publications r)
 
 -- What the publishers' datagrams bring, by number.
-abbrev pub locate_payload : Publication → ℕ → Content
-locate_payload p number = numbered p.stream.next (datagrams (sent_samples p.stream p.samples)) number
+abbrev pub content_by_number : Publication → ℕ → Content
+content_by_number p number = numbered p.stream.next (datagrams (sent_samples p.stream p.samples)) number
 
 abbrev pub senders_in : Room → ℕ → ℕ → Content
-senders_in r source number = if source == 1 then locate_payload (one_of r) number else locate_payload
-    (other_of r) number
+senders_in r source number = content_by_number (if source == 1 then one_of r else other_of r) number
 
 -- The forwarder sends the first publisher on; its packet comes; it goes over to the second one, whose packet comes.
 abbrev pub steps_in : Room → List Step
