@@ -1,8 +1,9 @@
 -- What the calls of an end answer that send packets on.
 use Rattle.std.specs.Prelude.{ℕ, ◌≡◌, ◌≢◌, ◌≤◌, Bool, true, List, [], ◌∷◌, length, slice_range, Option, Some, None}
+use Rattle.std.specs.Prelude.{Result, Ok, Err}
 use Rattle.rtp_wire.specs.declared.values.ExtensionValues.{ExtensionValues}
 use Rattle.payload_core_base.specs.Outgoing.{Outgoing}
-use Rattle.rtp_media_streams.specs.Forwarding.{after_packet, refusal_of_packet}
+use Rattle.rtp_media_streams.specs.Forwarding.{after_packet}
 use Rattle.rtp_media_streams.specs.Receiving.{number_taken, taken_number, with_stream}
 use Rattle.rtp_media_streams.specs.Sending.{datagram_of}
 use Rattle.rtp_media_streams.specs.declared.errors.ForwardError.{ForwardError}
@@ -13,6 +14,7 @@ use Rattle.rtp_media_stream_table.specs.declared.received.Received.TheVariants a
 use Rattle.rtp_media_ends.specs.EndArrivals.{verdict_of}
 use Rattle.rtp_media_ends.specs.Ends.{EndState, is_receiver_at, is_sender_at, receiver_at, sender_at}
 use Rattle.rtp_media_ends.specs.Ends.{with_receiver, with_sender}
+use Rattle.rtp_media_ends.specs.PacketSteps.{packet_step_at}
 use Rattle.rtp_media_ends.specs.Stops.{Where}
 use Rattle.jilqamur.specs.Codes.{ok, memory, unreadable, foreign, damaged, refused, no_stream, limit_too_small}
 use Rattle.jilqamur.specs.Codes.{adds_redundancy, number_too_large, no_payload}
@@ -67,13 +69,13 @@ forward_code forward_error.NoPayload = no_payload
 forward_code forward_error.LimitTooSmall = limit_too_small
 forward_code forward_error.Memory = memory
 
-abbrev pub forward_outcome : Option ForwardError → ℕ
-forward_outcome None = ok
-forward_outcome (Some error) = forward_code error
+abbrev pub forward_outcome : Result (List ℕ) ForwardError → ℕ
+forward_outcome (Ok datagram) = ok
+forward_outcome (Err error) = forward_code error
 
 pub record SendsPacket (e : EndState) (n number : ℕ) (packet : Outgoing) (result : ℕ) (datagrams : List (List ℕ))
     (after : EndState) : Type 0 where
-  pub outcome : result ≢ memory → result ≡ forward_outcome (refusal_of_packet (sender_at e n) number packet)
+  pub outcome : result ≢ memory → result ≡ forward_outcome (packet_step_at e n number packet).answer
   pub sent : result ≡ ok → datagrams ≡ datagram_of (sender_at e n) number packet ∷ []
   pub is_behind : result ≡ ok → after ≡ with_sender e n (after_packet (sender_at e n) number)
   pub stays : result ≢ ok → after ≡ e

@@ -1,13 +1,18 @@
 //! Packets that an end sends on without putting frames together.
 //! Each call returns `CLOSED` at a closed handle, and changes nothing then.
 
-ghost use Rattle.std.specs.Prelude.{◌≡◌, ◌≢◌};
+ghost use Rattle.std.specs.Prelude.{◌≡◌, ◌≢◌, IfErr, IfOk, OnErr, OnOk, true};
 ghost use Rattle.payload_core_base.specs.Outgoing.{outgoing};
+ghost use Rattle.rtp_media_streams.specs.Forwarding.{after_packet};
+ghost use Rattle.rtp_media_streams.specs.Sending.{datagram_of};
+ghost use Rattle.rtp_media_ends.specs.Ends.{is_sender_at, sender_at, with_sender};
+ghost use Rattle.rtp_media_ends.specs.PacketSteps.{packet_step_at};
 ghost use Rattle.jilqamur.specs.Codes.{ok, memory};
 ghost use Rattle.jilqamur.specs.Handles.{AtObject};
 ghost use Rattle.jilqamur.specs.Answers.{AtEnd, WithText};
 ghost use Rattle.jilqamur.specs.HeldEnds.{behind_end, behind_sample};
 ghost use Rattle.jilqamur.specs.Passing.{AnswersArrival, AnswersPacket, TakesNumber, foreign_code, forward_code};
+ghost use Rattle.jilqamur.specs.Passing.{forward_outcome};
 ghost use Rattle.jilqamur.specs.Sending.{values_of};
 ghost use Rattle.jilqamur.specs.Held.{end_in};
 
@@ -17,8 +22,10 @@ use crate::handle::EndHandle;
 use crate::object::Object;
 use crate::sending::{mid_of, one};
 use crate::values::WireValues;
+use rtp_media_ends::End;
 use rtp_media_stream_table::Received;
 use rtp_media_streams::{Arrival, Datagram, ForwardError};
+use rtp_wire::ExtensionValues;
 use std::alloc::Global;
 
 /// How a datagram arrives at a receiving stream.
@@ -158,6 +165,34 @@ fn forward_code(error: ForwardError) -> u32
     }
 }
 
+/// Sends a packet on at a sending stream; or the number of the refusal.
+fn send_on(
+    end: &mut End,
+    stream: usize,
+    number: u64,
+    time: u32,
+    marker: bool,
+    values: &ExtensionValues,
+    payload: &[u8],
+) -> Result<Datagram, u32>
+    requires { is_sender_at end.old stream ≡ true }
+    ensures sent { IfOk result (λ d. d ≡ datagram_of (sender_at end.old stream) number
+        (outgoing payload.now marker time values.now)) }
+    ensures accepted { OnOk result (forward_outcome (packet_step_at end.old stream number
+        (outgoing payload.now marker time values.now)).answer ≡ ok) }
+    ensures after { OnOk result (end.new ≡ with_sender end.old stream
+        (after_packet (sender_at end.old stream) number)) }
+    ensures refused { IfErr result (λ code. code ≢ memory → code ≡ forward_outcome
+        (packet_step_at end.old stream number (outgoing payload.now marker time values.now)).answer) }
+    ensures not_sent { IfErr result (λ code. code ≢ ok) }
+    ensures unchanged { OnErr result (end.new ≡ end.old) }
+{
+    match end.send_packet(stream, number, time, marker, values, payload) {
+        Ok(sent) => Ok(sent),
+        Err(error) => Err(forward_code(error)),
+    }
+}
+
 /// Sends one packet of another stream as a datagram of a sending stream, under this number, timestamp and marker bit,
 /// and returns `OK`: it is left to be fetched as the only datagram. It carries the given values, and the mid if given,
 /// as far as the stream's map has an id for them. Numbers may come in any order; the stream's samples are numbered
@@ -205,12 +240,12 @@ pub extern "C" fn jilqamur_end_send_packet(
         return codes::MEMORY;
     };
     let values = values.values(mid_of(mid));
-    match end.send_packet(stream, number, time, marker, &values, payload) {
+    match send_on(end, stream, number, time, marker, &values, payload) {
         Ok(sent) => {
             left[0] = sent;
             held.datagrams = left;
             codes::OK
         }
-        Err(error) => forward_code(error),
+        Err(code) => code,
     }
 }
