@@ -2,7 +2,7 @@
 """Holds the stored run of `browser_lines` beside what the standards say of answers, of offers and of rejected sections.
 
 Each text that a browser gets for its offer has the offer's sections in their order and under their names (RFC 3264 6,
-RFC 8829 5.3.1). One that the end never sees, as it is of data, of port 0, isn't requested for, or has no codec in common,
+RFC 8829 5.3.1). One that the end never sees, as it is of data, of port 0, has no request, or has no codec in common,
 is rejected: of port 0, without direction both ways, without lines of the transport, and in no bundle (RFC 9143 7.3.3).
 Each other one has a direction that the offer and the request allow (RFC 3264 6.1), types of the offer alone, in its order
 and with the meaning that they have there (RFC 3264 6.1), extensions of the offer alone (RFC 8285 6), and the

@@ -106,7 +106,7 @@ pub record AreInCommon (offer : List ℕ) (state : BrowserState) (rows : List Ro
   pub rejects : RejectsInTurn offer state rows times before after
   pub left : HasRows offer state rows after
 
--- Why there are none: the offer is refused, as it is requested for or with the sections rejected that have no row in
+-- Why there are none: the offer is refused, by these requests or with the sections rejected that have no row in
 -- common.
 pub record RefusesInCommon (offer : List ℕ) (state : BrowserState) (rows : List Row) (requests : List SectionRequest)
     (e : BrowserError)

@@ -20,7 +20,7 @@ abbrev pub request_at : List SectionRequest → Option ℕ → Option SectionReq
 request_at requests None = None
 request_at requests (Some n) = slice_get requests n
 
--- A section of an end as it is requested for; one that isn't is inactive, without SSRCs.
+-- A section of an end as its request says; without one that accepts it is inactive, without SSRCs.
 abbrev pub wanted : Option SectionRequest → MediaLine → Wanted
 wanted (Some (Accept direction ssrcs repairs)) m = record {
   mid = mid_of m;
@@ -34,6 +34,6 @@ wanted _ m = record { mid = mid_of m; kind = kind_of m.typ; dir = Inactive; ssrc
 abbrev pub wanted_in : BrowserState → List SectionRequest → MediaLine → Wanted
 wanted_in state requests m = wanted (request_at requests (number_from (mid_of m) 0 state.places)) m
 
--- The sections of an end, in its order, each as it is requested for.
+-- The sections of an end, in its order, each as its request says.
 abbrev pub wanted_of : BrowserState → List SectionRequest → List Wanted
 wanted_of state requests = map (wanted_in state requests) state.sections

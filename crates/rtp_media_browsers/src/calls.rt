@@ -54,10 +54,10 @@ pub(crate) fn offer_handed(
 
 /// The text that an end understands of a browser's offer, for its `answer` with what `sections_for` then gives: first
 /// the sections that the end has already, in its own order, then the offer's new ones in theirs. Sections of data,
-/// those of port 0 and those that aren't requested for are left out, and so are the lines of the transport. A section
-/// that the end has already is never left out: if the browser or the request stops it, it is inactive. A section that
-/// only has no transport of its own, as Firefox's with `max-bundle`, is one like any other. `requests` has a request
-/// for each section of the offer, in order; a section without one is rejected.
+/// those of port 0 and those that no request accepts are left out, and so are the lines of the transport. A
+/// section that the end has already is never left out: if the browser or the request stops it, it is inactive. A
+/// section that only has no transport of its own, as Firefox's with `max-bundle`, is one like any other. `requests` has
+/// a request for each section of the offer, in order; a section without one is rejected.
 ///
 /// Lines that browsers pass over are passed over here: empty ones, a section's later lines of bandwidth and those after
 /// an attribute, and further maps of a payload type. A section without a name gets one by its place, as `place_2`.

@@ -45,7 +45,7 @@ fn request_at(requests: &[SectionRequest], number: Option<usize>) -> Option<&Sec
     }
 }
 
-/// A section of an end as it is requested for.
+/// A section of an end as its request says.
 fn wanted(
     alloc: Global,
     request: Option<&SectionRequest>,
@@ -77,7 +77,7 @@ fn wanted(
     }
 }
 
-/// A section of the state's end as it is requested for.
+/// A section of the state's end as its request says.
 fn wanted_in(
     alloc: Global,
     state: &BrowserState,
@@ -91,7 +91,7 @@ fn wanted_in(
 }
 
 /// The sections of an end's answer, in its order, after `for_end` and with the requests that it was given: each section
-/// that the end has, as it is requested for; one that was stopped or is rejected is inactive, without SSRCs.
+/// that the end has, as its request says; one that was stopped or is rejected is inactive, without SSRCs.
 ///
 /// # Errors
 ///
