@@ -25,7 +25,7 @@ LONGEST_LINE = 120
 MOST_LINES_OF_README = 130
 # The crates for users, which hand on what their layer has for them.
 DOORS = (
-    "rtp_wire", "payload_core", "h26x_payload", "sdp_formats", "sdp_formats_json", "rtp_media", "rtp_media_browsers",
+    "rtp_wire", "payload_core", "h26x_payload", "sdp_formats", "rtp_media", "rtp_media_browsers",
     "media_files",
 )
 

@@ -19,7 +19,6 @@ STARTS = {
     "payload_core": ["DepacketizingBuffer", "Packetizer", "Depacketizer", "Payloader"],
     "h26x_payload": ["CodecPacketizer", "CodecDepacketizer"],
     "sdp_formats": ["SdpOffer", "SdpAnswer", "Sdp", "CodecConfig", "PayloadParams"],
-    "sdp_formats_json": [],
     "rtp_media": ["End"],
     "rtp_media_browsers": ["BrowserState", "SectionRequest", "Transport"],
     "media_files": [],

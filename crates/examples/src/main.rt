@@ -8,16 +8,12 @@
 //! - `captures`: captures of browsers in data/, a line each, `FILE CODEC TYPE [REDTYPE]`, into units (`captures`)
 //! - `offer`: an offer, into its sections with their rows and candidates (`offer`)
 //! - `browser`: a browser's offer of audio and data, which an end answers (`browser`)
-//! - `rows`: rows in JSON, a line each, read and written (`json_rows`)
-//! - `track`: nothing; a tuple of the program's own, of what rows hold, written and read by serde (`json_values`)
 #![tactic(auto)]
 
 mod browser;
 mod capture;
 mod captured_stream;
 mod captures;
-mod json_rows;
-mod json_values;
 mod lossy_link;
 mod offer;
 mod recorder;
@@ -44,8 +40,6 @@ fn run(rt: &HostRuntime, part: &str) -> anyhow::Result<()> {
         "captures" => captures::report(rt, lines),
         "offer" => offer::print_offer(rt, lines),
         "browser" => browser::print_answer(rt, lines),
-        "rows" => json_rows::print_rows(rt, lines),
-        "track" => json_values::print_track(rt),
         _ => bail!("no example of this name"),
     }
 }

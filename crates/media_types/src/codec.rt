@@ -5,11 +5,11 @@ ghost use Rattle.media_types.specs.Codecs.{codec_named, codec_name, is_audio_cod
 ghost use Rattle.media_types.specs.Codecs.{is_tele_codec, kind_of_codec, kind_name, is_audio_kind};
 ghost use Rattle.media_types.specs.Codecs.{is_named, is_video_kind};
 
-use crate::codec_names::CODECS;
+use serde::{Deserialize, Serialize};
 use std::fmt;
 
 /// A codec or payload format, as `a=rtpmap` names it (RFC 8866 6.6).
-#[derive(Clone, Copy, PartialEq, Eq, Drop)]
+#[derive(Clone, Copy, Debug, PartialEq, Eq, Drop, Serialize, Deserialize)]
 pub enum Codec {
     /// Opus (RFC 7587).
     Opus,
@@ -46,6 +46,27 @@ pub enum Codec {
     /// A codec of another name.
     Unknown,
 }
+
+/// Every codec.
+pub const CODECS: [Codec; 17] = [
+    Codec::Opus,
+    Codec::PCMU,
+    Codec::PCMA,
+    Codec::G722,
+    Codec::CN,
+    Codec::AmrWb,
+    Codec::H264,
+    Codec::H265,
+    Codec::H266,
+    Codec::Vp8,
+    Codec::Vp9,
+    Codec::Av1,
+    Codec::Tele,
+    Codec::Rtx,
+    Codec::Red,
+    Codec::Null,
+    Codec::Unknown,
+];
 
 impl Codec {
     /// Whether it codes audio. Telephone events don't.

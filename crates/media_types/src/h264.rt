@@ -1,7 +1,6 @@
 //! Profiles and levels of H.264 (RFC 6184 8.1).
 
 ghost use Rattle.std.specs.Prelude.{◌≡◌};
-ghost use Rattle.media_types.specs.Names.{HasOwnNames};
 ghost use Rattle.media_types.specs.Tables.{IsRising, IsTable, place_of, with_number};
 ghost use Rattle.media_types.specs.H264LevelIdc.{level_idc, levels};
 ghost use Rattle.media_types.specs.H264Profile.{profile_of};
@@ -10,10 +9,10 @@ ghost use Rattle.media_types.specs.H264ProfileIdc.{profile_idc, profile_idcs};
 ghost use Rattle.media_types.specs.H264ProfileLevel.{HasOneRow, fallback, profile_level_of};
 ghost use Rattle.media_types.specs.H264ProfileLevel.{read_level_idc, read_profile_idc};
 ghost use Rattle.media_types.specs.H264ProfileLevel.{read_profile_level};
-ghost use Rattle.media_types.specs.H264Names.{profile_name, profile_idc_name, level_name, profiles};
 
-use crate::h264_names::{H264_LEVELS, H264_PROFILE_IDCS};
+use crate::h264_tables::{H264_LEVELS, H264_PROFILE_IDCS};
 use crate::numbered::{Numbered, find_number};
+use serde::{Deserialize, Serialize};
 use thiserror::Error;
 
 /// Why a number of H.264 is refused.
@@ -31,7 +30,7 @@ pub enum H264ProfileError {
 }
 
 /// A profile of H.264 (RFC 6184 8.1, table 5).
-#[derive(Clone, Copy, Debug, PartialEq, Eq, Drop)]
+#[derive(Clone, Copy, Debug, PartialEq, Eq, Drop, Serialize, Deserialize)]
 pub enum H264Profile {
     /// Constrained baseline.
     ConstrainedBaseline,
@@ -48,7 +47,7 @@ pub enum H264Profile {
 }
 
 /// The profile_idc byte of a profile, named by its hexadecimal digits.
-#[derive(Clone, Copy, Debug, PartialEq, Eq, Drop)]
+#[derive(Clone, Copy, Debug, PartialEq, Eq, Drop, Serialize, Deserialize)]
 pub enum H264ProfileIdc {
     /// profile_idc 66, in rows of baseline and constrained baseline.
     X42,
@@ -88,7 +87,7 @@ impl TryFrom<u8> for H264ProfileIdc {
 }
 
 /// A level of H.264; level_idc is ten times the level; levels are ordered.
-#[derive(Clone, Copy, Debug, PartialEq, Eq, PartialOrd, Ord, Drop)]
+#[derive(Clone, Copy, Debug, PartialEq, Eq, PartialOrd, Ord, Drop, Serialize, Deserialize)]
 pub enum H264LevelIdc {
     /// Level 1, level_idc 10.
     Level1,
@@ -260,7 +259,7 @@ fn profile_of(idc: u8, iop: u8) -> Option<H264Profile>
 }
 
 /// A profile and a level of H.264.
-#[derive(Clone, Copy, Debug, PartialEq, Eq, Drop)]
+#[derive(Clone, Copy, Debug, PartialEq, Eq, Drop, Serialize, Deserialize)]
 pub struct H264ProfileLevel {
     pub(crate) profile: H264Profile,
     pub(crate) level: H264LevelIdc,
@@ -314,15 +313,11 @@ impl TryFrom<u32> for H264ProfileLevel {
 
 /// Properties of the H.264 tables: two bytes match at most one row of the profile table; a number
 /// finds the profile_idc or level it belongs to, and no other; levels are ordered by index and by
-/// number alike; each profile, profile_idc and level is found by its name; and the default is
-/// baseline at level 1.
+/// number alike; and the default is baseline at level 1.
 pub fn h264_tables_law()
     ensures one_row { HasOneRow }
     ensures profile_idcs { IsTable profile_idc profile_idcs }
     ensures levels { IsTable level_idc levels }
     ensures rising { IsRising level_idc levels ⟦<H264LevelIdc as Ord>⟧.cmp }
     ensures fallback { H264ProfileLevel.FALLBACK ≡ fallback }
-    ensures profile_names { HasOwnNames profile_name profiles }
-    ensures profile_idc_names { HasOwnNames profile_idc_name profile_idcs }
-    ensures level_names { HasOwnNames level_name levels }
 {}

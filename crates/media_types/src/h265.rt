@@ -1,20 +1,19 @@
 //! Profiles, tiers and levels of H.265 (RFC 7798 7.1).
 
 ghost use Rattle.std.specs.Prelude.{◌≡◌};
-ghost use Rattle.media_types.specs.Names.{HasOwnNames};
 ghost use Rattle.media_types.specs.Tables.{IsRising, IsTable, place_of, with_number};
 ghost use Rattle.media_types.specs.H265Level.{fallback_level, level_id, levels};
-ghost use Rattle.media_types.specs.H265Names.{level_name, profile_name};
 ghost use Rattle.media_types.specs.H265Profile.{fallback_profile, profile_id, profiles};
 ghost use Rattle.media_types.specs.H265ProfileTierLevel.{ComesBack, fallback};
 
-use crate::h265_names::{H265_LEVELS, H265_PROFILES};
+use crate::h265_tables::{H265_LEVELS, H265_PROFILES};
 use crate::numbered::{Numbered, find_number};
 use crate::profile_tier_level::{InTable, Level, ProfileTierLevel};
 use crate::tier::Tier;
+use serde::{Deserialize, Serialize};
 
 /// A profile of H.265.
-#[derive(Clone, Copy, Debug, PartialEq, Eq, Drop)]
+#[derive(Clone, Copy, Debug, PartialEq, Eq, Drop, Serialize, Deserialize)]
 pub enum H265Profile {
     /// Profile 1.
     Main,
@@ -89,7 +88,7 @@ impl InTable for H265Profile {
 }
 
 /// A level of H.265; levels are ordered.
-#[derive(Clone, Copy, Debug, PartialEq, Eq, PartialOrd, Ord, Drop)]
+#[derive(Clone, Copy, Debug, PartialEq, Eq, PartialOrd, Ord, Drop, Serialize, Deserialize)]
 pub enum H265Level {
     /// Level 1, number 30.
     Level1,
@@ -200,14 +199,12 @@ impl ProfileTierLevel<H265Profile, H265Level> {
 }
 
 /// Properties of the H.265 tables: a number finds the profile or level it belongs to, and no other;
-/// levels are ordered by index and by number alike; each is found by its name; and profile, tier
-/// and level are recovered from their three numbers.
+/// levels are ordered by index and by number alike; and profile, tier and level are recovered from
+/// their three numbers.
 pub fn h265_tables_law()
     ensures profiles { IsTable profile_id profiles }
     ensures levels { IsTable level_id levels }
     ensures rising { IsRising level_id levels ⟦<H265Level as Ord>⟧.cmp }
     ensures comes_back { ComesBack }
     ensures fallback { H265_FALLBACK ≡ fallback }
-    ensures profile_names { HasOwnNames profile_name profiles }
-    ensures level_names { HasOwnNames level_name levels }
 {}

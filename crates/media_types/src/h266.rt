@@ -1,21 +1,20 @@
 //! Profiles, tiers and levels of H.266 (RFC 9328 7.2).
 
 ghost use Rattle.std.specs.Prelude.{◌≡◌};
-ghost use Rattle.media_types.specs.Names.{HasOwnNames};
 ghost use Rattle.media_types.specs.Tables.{IsRising, IsTable, place_of, with_number};
 ghost use Rattle.media_types.specs.H266Level.{fallback_level, level_id, levels};
-ghost use Rattle.media_types.specs.H266Names.{level_name, profile_name};
 ghost use Rattle.media_types.specs.H266Profile.{fallback_profile, profile_id, profiles};
 ghost use Rattle.media_types.specs.H266ProfileTierLevel.{ComesBack, fallback};
 ghost use Rattle.media_types.specs.LevelsApart.{LevelsApart};
 
-use crate::h266_names::{H266_LEVELS, H266_PROFILES};
+use crate::h266_tables::{H266_LEVELS, H266_PROFILES};
 use crate::numbered::{Numbered, find_number};
 use crate::profile_tier_level::{InTable, Level, ProfileTierLevel};
 use crate::tier::Tier;
+use serde::{Deserialize, Serialize};
 
 /// A profile of H.266.
-#[derive(Clone, Copy, Debug, PartialEq, Eq, Drop)]
+#[derive(Clone, Copy, Debug, PartialEq, Eq, Drop, Serialize, Deserialize)]
 pub enum H266Profile {
     /// Profile 1.
     Main10,
@@ -63,7 +62,7 @@ impl InTable for H266Profile {
 }
 
 /// A level of H.266; levels are ordered.
-#[derive(Clone, Copy, Debug, PartialEq, Eq, PartialOrd, Ord, Drop)]
+#[derive(Clone, Copy, Debug, PartialEq, Eq, PartialOrd, Ord, Drop, Serialize, Deserialize)]
 pub enum H266Level {
     /// Level 1, number 16.
     Level1,
@@ -180,16 +179,13 @@ impl ProfileTierLevel<H266Profile, H266Level> {
 }
 
 /// Properties of the H.266 tables: a number finds the profile or level it belongs to, and no other;
-/// levels are ordered by index and by number alike; each is found by its name; profile, tier and
-/// level are recovered from their three numbers; and no `level-id` is shared with H.265, so that it
-/// tells the two apart.
+/// levels are ordered by index and by number alike; profile, tier and level are recovered from their
+/// three numbers; and no `level-id` is shared with H.265, so that it tells the two apart.
 pub fn h266_tables_law()
     ensures profiles { IsTable profile_id profiles }
     ensures levels { IsTable level_id levels }
     ensures rising { IsRising level_id levels ⟦<H266Level as Ord>⟧.cmp }
     ensures comes_back { ComesBack }
     ensures fallback { H266_FALLBACK ≡ fallback }
-    ensures profile_names { HasOwnNames profile_name profiles }
-    ensures level_names { HasOwnNames level_name levels }
     ensures apart { LevelsApart }
 {}

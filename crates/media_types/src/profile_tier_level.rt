@@ -5,13 +5,13 @@ ghost use Rattle.media_types.specs.Tables.{place_of, with_number};
 ghost use Rattle.media_types.specs.ProfileTierLevel.{at_level, fallback, given, known, known_or_fallback};
 ghost use Rattle.media_types.specs.Tier.{tier_flag};
 
-use crate::named::Named;
 use crate::numbered::{Numbered, find_number};
 use crate::tier::Tier;
 use crate::values::given_or;
+use serde::{Deserialize, Serialize};
 
-/// The profiles or the levels of a codec: each has a number in session texts and a name.
-pub trait InTable: Numbered + Named + 'static {
+/// The profiles or the levels of a codec: each has a number in session texts.
+pub trait InTable: Numbered + 'static {
     ghost all: { List Self };
 
     ghost FALLBACK: { Self };
@@ -32,7 +32,7 @@ pub trait Level: InTable {
 }
 
 /// A profile, a tier and a level of a codec.
-#[derive(Clone, Copy, Debug, PartialEq, Eq, Drop)]
+#[derive(Clone, Copy, Debug, PartialEq, Eq, Drop, Serialize, Deserialize)]
 pub struct ProfileTierLevel<P, L> {
     pub(crate) profile: P,
     pub(crate) tier: Tier,

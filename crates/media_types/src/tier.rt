@@ -1,19 +1,13 @@
 //! Tiers of H.265 and H.266, whose flags are the same (RFC 7798 7.1, RFC 9328 7.2).
 
-ghost use Rattle.std.specs.Prelude.{◌≡◌, IfOk};
-ghost use Rattle.serde.specs.Event.{Sends};
-ghost use Rattle.serde.specs.Steps.{Gives};
-ghost use Rattle.media_types.specs.Names.{HasOwnNames, ReadsName, name_event};
+ghost use Rattle.std.specs.Prelude.{◌≡◌};
 ghost use Rattle.media_types.specs.Tables.{IsTable, with_number};
-ghost use Rattle.media_types.specs.Tier.{tier_flag, tier_name, tiers};
+ghost use Rattle.media_types.specs.Tier.{tier_flag, tiers};
 
-use crate::named::{Named, read_name, write_name};
-use serde::de::DeserializeOwned;
-use serde::{Described, Deserialize, Deserializer, Format, Serialize, Serializer};
-use std::alloc::Global;
+use serde::{Deserialize, Serialize};
 
 /// A tier of H.265 or H.266.
-#[derive(Clone, Copy, Debug, PartialEq, Eq, Drop)]
+#[derive(Clone, Copy, Debug, PartialEq, Eq, Drop, Serialize, Deserialize)]
 pub enum Tier {
     /// The main tier, flag 0.
     Main,
@@ -47,53 +41,7 @@ impl Tier {
     }
 }
 
-impl Named for Tier {
-    ghost name = { tier_name };
-
-    fn name(self) -> &'static str {
-        match self {
-            Tier::Main => "Main",
-            Tier::High => "High",
-        }
-    }
-}
-
-impl Described for Tier {
-    ghost writes = { λ tier. Sends (name_event (tier_name tier)) };
-}
-
-/// The name of its variant is written.
-impl Serialize for Tier {
-    fn serialize<S: Serializer>(&self, out: &mut S) -> Result<(), S::Error> {
-        write_name(*self, out)
-    }
-}
-
-/// The name of a variant is read.
-impl<'de> Deserialize<'de> for Tier {
-    fn deserialize<F: Format>(
-        alloc: Global,
-        from: &mut Deserializer<'de, '_, F>,
-    ) -> Result<Self, F::Error>
-        ensures { IfOk result (ReadsName (λ e. Gives F.gives from.old e from.new) tier_name tiers) }
-    {
-        read_name(alloc, from, &TIERS)
-    }
-}
-
-impl DeserializeOwned for Tier {
-    fn deserialize_owned<F: Format>(
-        alloc: Global,
-        from: &mut Deserializer<'_, '_, F>,
-    ) -> Result<Self, F::Error>
-        ensures { IfOk result (ReadsName (λ e. Gives F.gives from.old e from.new) tier_name tiers) }
-    {
-        read_name(alloc, from, &TIERS)
-    }
-}
-
-/// Properties of the tiers: a flag, or a name, finds the tier it belongs to, and no other.
+/// Properties of the tiers: a flag finds the tier it belongs to, and no other.
 pub fn tiers_law()
     ensures tiers { IsTable tier_flag tiers }
-    ensures names { HasOwnNames tier_name tiers }
 {}

@@ -5,7 +5,6 @@ use sdp_formats::{
     Codec, CodecConfig, CodecSpec, Direction, FormatParams, Frequency, PayloadParams, Pt,
     RoundError,
 };
-use sdp_formats_json::{JsonError, row_from_json, row_to_json};
 use std::alloc::{AllocError, Global};
 
 fn opus(pt: u8) -> PayloadParams {
@@ -91,13 +90,13 @@ pub(crate) fn print_json(rt: &HostRuntime) -> Option<()> {
     let text = json_of(rt, &row)?;
     let _ = println!(*rt; "{text}");
     for _ in 0..TIMES {
-        match row_from_json(rt.alloc(), text.as_str()) {
+        match serde_json::from_str::<PayloadParams>(rt.alloc(), text.as_str()) {
             Ok(again) => {
                 let same = again == row;
                 let _ = println!(*rt; "read back as it is: {same}");
                 return Some(());
             }
-            Err(JsonError::Memory) => print_refused(rt),
+            Err(error) if error.is_memory() => print_refused(rt),
             Err(_) => return None,
         }
     }
@@ -106,7 +105,7 @@ pub(crate) fn print_json(rt: &HostRuntime) -> Option<()> {
 
 fn json_of(rt: &HostRuntime, row: &PayloadParams) -> Option<String> {
     for _ in 0..TIMES {
-        match row_to_json(rt.alloc(), row) {
+        match serde_json::to_string(rt.alloc(), row) {
             Ok(text) => return Some(text),
             Err(_) => print_refused(rt),
         }

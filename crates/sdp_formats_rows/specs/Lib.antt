@@ -9,14 +9,10 @@ pub mod LevelScore
 pub mod LineValues
 pub mod OneParam
 pub mod Parameters
-pub mod ParamsFields
-pub mod ParamsReading
 pub mod Plain
 pub mod Points
 pub mod Replaced
 pub mod Rows
-pub mod RowsFields
-pub mod RowsReading
 pub mod Same
 pub mod Scores
 pub mod Texts

@@ -8,9 +8,10 @@ use crate::levels::level_format;
 use crate::set_values::with_part;
 use media_types::{H265ProfileTierLevel, H266ProfileTierLevel};
 use sdp_formats_grammar::first_part;
+use serde::{Deserialize, Serialize};
 
 /// Format parameters of a codec, as `a=fmtp` gives them (RFC 8866 6.15); None is not given.
-#[derive(Clone, Copy, Debug, PartialEq, Eq, Default, Drop)]
+#[derive(Clone, Copy, Debug, PartialEq, Eq, Default, Drop, Serialize, Deserialize)]
 pub struct FormatParams {
     /// Opus `minptime`: the least duration of a packet in milliseconds (RFC 7587 6.1).
     pub min_p_time: Option<u8>,

@@ -9,36 +9,38 @@ use crate::plain::is_plain;
 use crate::score::score;
 use crate::spec::CodecSpec;
 use rtp_wire::Pt;
+use serde::{Deserialize, Serialize};
 use std::alloc::{AllocError, Global};
 use std::marker::Model;
 
-// The payload types of a row.
-#[derive(Clone, Copy, Debug, PartialEq, Eq, Drop)]
-struct Types {
-    pt: Pt,
-    resend: Option<Pt>,
-    red: Option<Pt>,
-}
-
 // Which feedback a row uses.
-#[derive(Clone, Copy, Debug, PartialEq, Eq, Drop)]
+#[derive(Clone, Copy, Debug, PartialEq, Eq, Drop, Serialize, Deserialize)]
 struct Feedback {
+    #[serde(rename = "fb_transport_cc")]
     transport_cc: bool,
+    #[serde(rename = "fb_nack")]
     nack: bool,
+    #[serde(rename = "fb_pli")]
     pli: bool,
+    #[serde(rename = "fb_fir")]
     fir: bool,
+    #[serde(rename = "fb_remb")]
     remb: bool,
 }
 
 /// A row: a payload type, the codec that it stands for, and the feedback that it uses.
 ///
-/// Two rows are equal if all but their locks are.
-#[derive(Clone, Copy, Debug, Drop)]
+/// Two rows are equal if all but their locks are. In JSON a row is one object, its feedback
+/// `fb_transport_cc`, `fb_nack`, `fb_pli`, `fb_fir` and `fb_remb`; `resend` and `red` may be missing.
+#[derive(Clone, Copy, Debug, Drop, Serialize, Deserialize)]
 #[derive_where(PartialEq, Eq)]
 pub struct PayloadParams {
-    types: Types,
-    feedback: Feedback,
+    pt: Pt,
+    resend: Option<Pt>,
     spec: CodecSpec,
+    #[serde(flatten)]
+    feedback: Feedback,
+    red: Option<Pt>,
     #[derive_where(skip(EqHashOrd))]
     locked: bool,
 }
@@ -49,22 +51,24 @@ impl Model for PayloadParams {
     ghost Value = { Row };
 
     ghost view = { λ r. record {
-      pt = r.types.pt;
-      resend = r.types.resend;
+      pt = r.pt;
+      resend = r.resend;
       spec = r.spec;
       transport_cc = r.feedback.transport_cc;
       nack = r.feedback.nack;
       pli = r.feedback.pli;
       fir = r.feedback.fir;
       remb = r.feedback.remb;
-      red = r.types.red;
+      red = r.red;
       locked = r.locked;
     } };
 
     ghost inverse = { λ r. record {
-      types = record { pt = r.pt; resend = r.resend; red = r.red };
-      feedback = record { transport_cc = r.transport_cc; nack = r.nack; pli = r.pli; fir = r.fir; remb = r.remb };
+      pt = r.pt;
+      resend = r.resend;
       spec = r.spec;
+      feedback = record { transport_cc = r.transport_cc; nack = r.nack; pli = r.pli; fir = r.fir; remb = r.remb };
+      red = r.red;
       locked = r.locked;
     } };
 }
@@ -80,11 +84,9 @@ impl PayloadParams {
     {
         let is_video = spec.codec.is_video();
         PayloadParams {
-            types: Types {
-                pt,
-                resend,
-                red: None,
-            },
+            pt,
+            resend,
+            spec,
             feedback: Feedback {
                 transport_cc: true,
                 nack: is_video,
@@ -92,7 +94,7 @@ impl PayloadParams {
                 fir: is_video,
                 remb: is_video,
             },
-            spec,
+            red: None,
             locked: false,
         }
     }
@@ -102,10 +104,7 @@ impl PayloadParams {
         ensures { result ≡ record self { red = Some pt } }
     {
         PayloadParams {
-            types: Types {
-                red: Some(pt),
-                ..self.types
-            },
+            red: Some(pt),
             ..self
         }
     }
@@ -115,7 +114,9 @@ impl PayloadParams {
         ensures { result ≡ record self { pt = pt; resend = resend; red = red } }
     {
         PayloadParams {
-            types: Types { pt, resend, red },
+            pt,
+            resend,
+            red,
             ..self
         }
     }
@@ -168,14 +169,14 @@ impl PayloadParams {
     pub fn pt(&self) -> Pt
         ensures { result ≡ self.now.pt }
     {
-        self.types.pt
+        self.pt
     }
 
     /// The type of its retransmissions, if they have one (RFC 4588).
     pub fn resend(&self) -> Option<Pt>
         ensures { result ≡ self.now.resend }
     {
-        self.types.resend
+        self.resend
     }
 
     /// The codec with its settings.
@@ -189,7 +190,7 @@ impl PayloadParams {
     pub fn red(&self) -> Option<Pt>
         ensures { result ≡ self.now.red }
     {
-        self.types.red
+        self.red
     }
 
     /// Whether transport-wide feedback is used.

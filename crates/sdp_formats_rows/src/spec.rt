@@ -3,9 +3,10 @@
 use crate::format::FormatParams;
 use media_types::Codec;
 use rtp_wire::{Frequency, Pt};
+use serde::{Deserialize, Serialize};
 
 /// A codec with its clock rate, channels and format (RFC 8866 6.6 and 6.15).
-#[derive(Clone, Copy, Debug, PartialEq, Eq, Drop)]
+#[derive(Clone, Copy, Debug, PartialEq, Eq, Drop, Serialize, Deserialize)]
 pub struct CodecSpec {
     /// The codec.
     pub codec: Codec,
