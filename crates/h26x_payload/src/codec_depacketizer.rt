@@ -213,6 +213,16 @@ impl<B: Depacketizer> Depacketizer for CodecDepacketizer<B> {
         }
     }
 
+    fn is_plain(&self) -> bool {
+        match self {
+            CodecDepacketizer::G711(d) => d.is_plain(),
+            CodecDepacketizer::G722(d) => d.is_plain(),
+            CodecDepacketizer::Opus(d) => d.is_plain(),
+            CodecDepacketizer::ComfortNoise(d) => d.is_plain(),
+            _ => false,
+        }
+    }
+
     fn is_partition_head(&self, packet: &[u8]) -> bool {
         match self {
             CodecDepacketizer::G711(d) => d.is_partition_head(packet),

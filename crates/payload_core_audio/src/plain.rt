@@ -105,6 +105,10 @@ impl Depacketizer for PlainDepacketizer {
         Ok(())
     }
 
+    fn is_plain(&self) -> bool {
+        true
+    }
+
     fn is_partition_head(&self, _packet: &[u8]) -> bool {
         true
     }

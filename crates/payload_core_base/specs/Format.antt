@@ -30,6 +30,11 @@ Gives (Err e) old new extra fragment = ⊥
 abbrev pub Refuses : Result Reading PacketError → PacketError → Type 0
 Refuses r e = e ≢ Memory → r ≡ Err e
 
+-- A packet that isn't empty is a unit as it is.
+abbrev pub IsPlain : Format → Type 0
+IsPlain format = (fragment : Fragment) (extra : CodecExtra) (b : ℕ) (bs : List ℕ)
+    → format.read fragment extra (b ∷ bs) ≡ Ok (record { written = b ∷ bs; extra = extra; fragment = fragment })
+
 -- What packets give in order, up to the first one refused: the bytes, then the codec data, the open fragment and the
 -- fault after them.
 pub record Run : Type 0 where

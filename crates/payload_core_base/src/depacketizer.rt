@@ -1,7 +1,7 @@
 //! Reading packets.
 
-ghost use Rattle.payload_core_base.specs.Format.{Format, Fragment, Gives, Refuses};
-ghost use Rattle.std.specs.Prelude.{◌≡◌, IfErr, None, OnErr, OnOk};
+ghost use Rattle.payload_core_base.specs.Format.{Format, Fragment, Gives, IsPlain, Refuses};
+ghost use Rattle.std.specs.Prelude.{◌≡◌, IfErr, None, OnErr, OnOk, true};
 
 use crate::error::PacketError;
 use crate::extra::CodecExtra;
@@ -42,6 +42,13 @@ pub trait Depacketizer {
             IfErr result (Refuses reading) }
         ensures unchanged { OnErr result ((fragment self.new ≡ fragment self.old) × (out.new.items ≡ out.old.items)
             × (extra.new ≡ extra.old)) };
+
+    /// Whether each packet that isn't empty is a unit as it is.
+    fn is_plain(&self) -> bool
+        ensures { result ≡ true → IsPlain (format self.now) }
+    {
+        false
+    }
 
     /// Whether a unit can begin with this packet.
     fn is_partition_head(&self, packet: &[u8]) -> bool

@@ -29,6 +29,13 @@ impl Model for KeptValues {
 }
 
 impl KeptValues {
+    /// No values.
+    pub fn none() -> Self
+        ensures { result ≡ absent }
+    {
+        KeptValues { values: None }
+    }
+
     /// These values.
     ///
     /// # Errors

@@ -6,4 +6,5 @@ pub mod MadeLemmas
 pub mod Places
 pub mod Polling
 pub mod Sent
+pub mod Unread
 pub mod Wrapping

@@ -1,9 +1,9 @@
 //! Receiving streams.
 
 ghost use Rattle.std.specs.Prelude.{◌≡◌, ◌≤◌, IfErr, IfOk, IfSome, MatchOption, slice_range, vec_len, OnErr, OnOk};
-ghost use Rattle.std.specs.Prelude.{None, Some, length, true};
+ghost use Rattle.std.specs.Prelude.{None, Some, false, length, true};
 ghost use Rattle.h26x_payload.specs.Codings.{has_format};
-ghost use Rattle.rtp_wire.specs.Header.{header_in};
+ghost use Rattle.rtp_wire.specs.Header.{has_extension_in, header_in};
 ghost use Rattle.rtp_wire.specs.Maps.{empty_map};
 ghost use Rattle.rtp_wire.specs.Replay.{greatest_in, is_accepted, recorded_in};
 ghost use Rattle.rtp_wire.specs.Widening.{widened};
@@ -25,7 +25,7 @@ use crate::row_format::RowFormat;
 use crate::types::PayloadTypes;
 use h26x_payload::{CodecDepacketizer, NotBoxed};
 use payload_core_base::{Depacketizer, PacketError};
-use payload_core_buffer::{DepacketizingBuffer, RtpMeta, Unit};
+use payload_core_buffer::{DepacketizingBuffer, HeldMeta, KeptValues, RtpMeta, Unit};
 use rtp_wire::{
     ExtensionMap, ExtensionValues, Pt, RtpHeader, SeqNo, SeqNoWindow, Ssrc, extend_u16,
 };
@@ -207,6 +207,37 @@ fn hold(
     buffer.push_range(meta, bytes, start, end)
 }
 
+/// Holds a part of these bytes as a datagram's payload, as [`hold`], with values that are kept already.
+fn hold_kept(
+    buffer: &mut DepacketizingBuffer<CodecDepacketizer<NotBoxed>>,
+    meta: HeldMeta,
+    bytes: Vec<u8>,
+    start: usize,
+    end: usize,
+) -> Result<(), AllocFailed<Vec<u8>>>
+    requires in_order { start ≤ end }
+    requires within { end ≤ vec_len bytes }
+    ensures held { OnOk result (buffer.new ≡ record buffer.old {
+      held = pushed buffer.old.holding.held buffer.old.cutoff buffer.old.held
+          (packet_of meta.seq_no (content_of meta.time meta.marker meta.ext_vals
+          (slice_range bytes.items start end)));
+    }) }
+    ensures unchanged { OnErr result (buffer.new ≡ buffer.old) }
+    ensures handed_back { IfErr result (λ e. e.value ≡ bytes) }
+{
+    buffer.push_kept(meta, bytes, start, end)
+}
+
+/// Whether a datagram says in its first byte that its header has no extensions (RFC 3550 5.1).
+fn lacks_extension(datagram: &[u8]) -> bool
+    ensures { result ≡ true → has_extension_in datagram.now ≡ false }
+{
+    if datagram.is_empty() {
+        return false;
+    }
+    datagram[0] / 16 % 2 != 1
+}
+
 /// What the buffer handed out, as a poll says it.
 fn handed_out(popped: Result<Option<Unit>, PacketError>) -> Result<Option<Unit>, PollFault>
     ensures { found result ≡ as_answer (λ u. u) popped }
@@ -313,6 +344,16 @@ impl ReceivingStream {
         }
     }
 
+    /// The values that are read in a datagram, as they are kept.
+    fn values_kept(&self, datagram: &[u8]) -> Result<KeptValues, AllocError>
+        ensures { IfOk result (λ k. k ≡ values_read self.now.map datagram.now) }
+    {
+        if lacks_extension(datagram) {
+            return Ok(KeptValues::none());
+        }
+        KeptValues::new(self.alloc, &self.values_of(datagram))
+    }
+
     /// Takes one datagram of its own in, and returns its widened number; None if that is refused. The payload may be
     /// empty: it is then held as any other, and its format says at a poll what it makes of it. The payload alone is
     /// copied, once, if its number is new.
@@ -337,8 +378,13 @@ impl ReceivingStream {
         }
         let payload = Vec::from_slice(self.alloc, &datagram[placed.start..placed.end])?;
         let end = payload.len();
-        let meta = placed.meta(number, self.values_of(datagram));
-        hold(&mut self.buffer, meta, payload, 0, end)?;
+        let meta = HeldMeta {
+            seq_no: number,
+            time: placed.time,
+            marker: placed.marker,
+            ext_vals: self.values_kept(datagram)?,
+        };
+        hold_kept(&mut self.buffer, meta, payload, 0, end)?;
         record(&mut self.window, number);
         Ok(Some(number))
     }
