@@ -151,7 +151,11 @@ impl MediaTime {
     pub fn checked_rebase(self, denom: Frequency) -> Option<MediaTime>
         ensures { result ≡ checked_rebased self denom }
     {
-        let ticks = ticks_at(self.ticks, self.rate.get(), denom.get());
+        let ticks = self.ticks;
+        if self.rate.get() == denom.get() {
+            return Some(MediaTime { ticks, rate: denom });
+        }
+        let ticks = ticks_at(ticks, self.rate.get(), denom.get());
         match u64::try_from(ticks) {
             Ok(ticks) => Some(MediaTime { ticks, rate: denom }),
             Err(_) => None,
