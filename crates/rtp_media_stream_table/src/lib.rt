@@ -5,6 +5,7 @@ mod errors;
 mod finding;
 mod open_stream;
 mod received;
+mod slots;
 mod stream_index;
 mod stream_table;
 

@@ -5,7 +5,7 @@ ghost use Rattle.rtp_media_stream_table.specs.Arrivals.{takes};
 ghost use Rattle.rtp_media_stream_table.specs.Streams.{is_receiving, is_sending};
 ghost use Rattle.rtp_media_stream_table.specs.Indexed.{has_key, sends};
 
-use rtp_media_streams::{ReceivingStream, SendingStream};
+use crate::slots::{ReceiverSlot, SenderSlot};
 use rtp_wire::{Pt, Ssrc};
 
 /// Which streams are looked for.
@@ -21,9 +21,9 @@ pub enum Direction {
 #[derive(Drop)]
 pub enum OpenStream {
     /// One that sends.
-    Sender(SendingStream),
+    Sender(SenderSlot),
     /// One that receives.
-    Receiver(ReceivingStream),
+    Receiver(ReceiverSlot),
     /// One that was closed.
     Closed,
 }
@@ -64,7 +64,7 @@ impl OpenStream {
         ensures { result ≡ sends ssrc pt self.now }
     {
         match self {
-            OpenStream::Sender(sender) => sender.is_key(ssrc, pt),
+            OpenStream::Sender(sender) => sender.stream.is_key(ssrc, pt),
             OpenStream::Receiver(_) | OpenStream::Closed => false,
         }
     }
@@ -74,7 +74,7 @@ impl OpenStream {
         ensures { result ≡ takes ssrc pt self.now }
     {
         match self {
-            OpenStream::Receiver(receiver) => receiver.is_own(ssrc, pt),
+            OpenStream::Receiver(receiver) => receiver.stream.is_own(ssrc, pt),
             OpenStream::Sender(_) | OpenStream::Closed => false,
         }
     }

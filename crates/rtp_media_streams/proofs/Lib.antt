@@ -3,6 +3,7 @@ pub mod Cutting
 pub mod Draining
 pub mod Limiting
 pub mod MadeLemmas
+pub mod MissingLaws
 pub mod Places
 pub mod Polling
 pub mod Sent

@@ -19,7 +19,7 @@ impl StreamTable {
         let OpenStream::Sender(sender) = &self.streams[stream] else {
             unreachable!()
         };
-        let (ssrc, types) = (sender.ssrc(), sender.types());
+        let (ssrc, types) = (sender.stream.ssrc(), sender.stream.types());
         self.streams[stream] = OpenStream::Closed;
         self.senders.remove_types(ssrc, &types);
     }
@@ -36,7 +36,7 @@ impl StreamTable {
         let OpenStream::Receiver(receiver) = &self.streams[stream] else {
             unreachable!()
         };
-        let (ssrc, types) = (receiver.ssrc(), receiver.types());
+        let (ssrc, types) = (receiver.stream.ssrc(), receiver.stream.types());
         self.streams[stream] = OpenStream::Closed;
         self.receivers.remove_types(ssrc, &types);
     }

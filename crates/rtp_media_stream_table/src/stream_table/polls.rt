@@ -76,7 +76,7 @@ fn poll_out(alloc: Global, stream: &mut OpenStream) -> Result<Polls, AllocError>
 {
     let answers = match stream {
         OpenStream::Sender(_) | OpenStream::Closed => Vec::new(alloc),
-        OpenStream::Receiver(receiver) => receiver.poll_all()?,
+        OpenStream::Receiver(receiver) => receiver.stream.poll_all()?,
     };
     Ok(Polls { answers })
 }

@@ -1,11 +1,13 @@
 //! Numbers that a receiving stream misses, and those that it shall not wait for.
 
-ghost use Rattle.std.specs.Prelude.{◌≡◌, ◌≤◌, IfOk};
+ghost use Rattle.std.specs.List.{range_with_len};
+ghost use Rattle.std.specs.Prelude.{◌≡◌, ◌-◌, ◌≤◌, ◌&&◌, IfOk, Some, filter, nat_lt};
 ghost use Rattle.payload_core_buffer.specs.Buffered.{is_done};
 ghost use Rattle.payload_core_buffer.specs.Sizes.{bytes_of, excess};
 ghost use Rattle.rtp_media_streams.specs.Limits.{closed, fragment_len, is_next, kept_within, passed_empty};
 ghost use Rattle.rtp_media_streams.specs.Limits.{passed_if};
-ghost use Rattle.rtp_media_streams.specs.Missing.{is_awaited, missing, missing_in};
+ghost use Rattle.rtp_media_streams.specs.Missing.{begin_of, in_reach, lowest_taken, missing, missing_in};
+ghost use Rattle.rtp_wire.specs.Replay.{accepts};
 ghost use Rattle.rtp_media_streams.specs.Passing.{passed_to};
 ghost use Rattle.rtp_media_streams.specs.Receiving.{with_stream};
 
@@ -17,15 +19,47 @@ use std::alloc::{AllocError, Global};
 /// How many numbers below the greatest a window covers.
 const REACH_BELOW: u64 = 1023;
 
-/// Whether a number that hasn't come is waited for, given the cutoff and the lowest number that is held.
-fn is_awaited(cutoff: Option<SeqNo>, lowest: Option<SeqNo>, number: SeqNo) -> bool
-    ensures { result ≡ is_awaited cutoff lowest number }
+/// The lowest number that a window has recorded, of those that it reaches.
+fn lowest_taken(window: &SeqNoWindow) -> SeqNo
+    ensures { result ≡ lowest_taken window.now }
 {
-    match (cutoff, lowest) {
-        (Some(cutoff), _) => cutoff.get() < number.get(),
-        (None, Some(lowest)) => lowest.get() < number.get(),
-        (None, None) => false,
+    let greatest = window.max_seq().get();
+    for number in greatest.saturating_sub(REACH_BELOW)..greatest {
+        if !window.accepts(SeqNo::from(number)) {
+            return SeqNo::from(number);
+        }
     }
+    SeqNo::from(greatest)
+}
+
+/// Where a stream begins before any unit, given the lowest number that is held and the lowest that was taken.
+fn begin_of(held: Option<SeqNo>, taken: SeqNo) -> SeqNo
+    ensures { result ≡ begin_of held taken }
+{
+    match held {
+        Some(held) => SeqNo::from(held.get().min(taken.get())),
+        None => taken,
+    }
+}
+
+/// The numbers from `first` on that the window hasn't recorded, below its greatest.
+fn not_recorded(alloc: Global, first: u64, window: &SeqNoWindow) -> Result<Vec<SeqNo>, AllocError>
+    ensures { IfOk result (λ numbers. numbers.items
+        ≡ filter (λ y. accepts window.now y) (range_with_len first (window.now.greatest - first))) }
+{
+    (first..window.max_seq().get())
+        .map(SeqNo::from)
+        .filter(|number| window.accepts(*number))
+        .collect(alloc)
+}
+
+/// The numbers after this one that the window reaches and hasn't recorded, below its greatest.
+fn missing_after(alloc: Global, last: SeqNo, window: &SeqNoWindow) -> Result<Vec<SeqNo>, AllocError>
+    ensures { IfOk result (λ numbers. numbers.items
+        ≡ filter (λ y. nat_lt last y && accepts window.now y) (in_reach window.now)) }
+{
+    let reached = window.max_seq().get().saturating_sub(REACH_BELOW);
+    not_recorded(alloc, last.get().saturating_add(1).max(reached), window)
 }
 
 /// The numbers that are waited for, among those that the window reaches and hasn't recorded.
@@ -37,11 +71,10 @@ fn missing_in(
 ) -> Result<Vec<SeqNo>, AllocError>
     ensures { IfOk result (λ numbers. numbers.items ≡ missing_in cutoff lowest (Some window.now)) }
 {
-    let greatest = window.max_seq().get();
-    (greatest.saturating_sub(REACH_BELOW)..greatest)
-        .map(SeqNo::from)
-        .filter(|number| is_awaited(cutoff, lowest, *number) && window.accepts(*number))
-        .collect(alloc)
+    match cutoff {
+        Some(cutoff) => missing_after(alloc, cutoff, window),
+        None => missing_after(alloc, begin_of(lowest, lowest_taken(window)), window),
+    }
 }
 
 impl ReceivingStream {
@@ -120,8 +153,9 @@ impl ReceivingStream {
     }
 
     /// The missing numbers, in increasing order: those after the last unit's, or, before any unit, after the lowest
-    /// packet that waits, that were not taken, below the greatest that was and within the replay window. These, and no
-    /// others, are worth asking for (generic NACK, RFC 4585 6.2.1); they are at most 1,023.
+    /// number that waits or was taken, that were not taken, below the greatest that was and within the replay window.
+    /// These, and no others, are worth asking for (generic NACK, RFC 4585 6.2.1); they are at most 1,023. So a stream
+    /// whose numbers are only taken, to send its packets on, tells its gaps too.
     ///
     /// # Errors
     /// Out of memory for the list.
