@@ -25,7 +25,8 @@ use Rattle.payload_core_buffer.proofs.KeptLemmas.{rising-drop, rising-held_with}
 use Rattle.payload_core_buffer.proofs.FrameLemmas.{lowest_is}
 use Rattle.stream_recording.specs.Orders.{AreInOrder, Comes, EndLaw, IsRecordingOf, NoMore, RecordingLaw, Records}
 use Rattle.stream_recording.specs.Orders.{StepLaw}
-use Rattle.stream_recording.specs.Recorded.{AtEnd, Faults, HandsOut, NoneDue, Outcome, Takes}
+use Rattle.stream_recording.specs.Recorded.{AtEnd, Faults, HandsOut, NoneDue, Outcome, Takes, TakesDue}
+use Rattle.stream_recording.specs.Recorded.{TakesFrom, Waiting, has_begun}
 
 -- packets above what is done with
 abbrev pub AreAbove : Option ℕ → List Packet → Type 0
@@ -258,13 +259,25 @@ takes-in-order {format} {hold_back} rest is (Faults {s = s} {m = m} {t = t} {e =
     let after = takes-in-order rest first.0 more in
     (after.0, λ ordered. first.1 (after.1 ordered))
 
+-- what a packet makes due, and what follows it
+due-in-order : (format : Format) (hold_back : ℕ) (s t : PopState) (os : List Outcome) (b : Bool) (rest : List Outcome)
+    → IsSound s → TakesFrom b format hold_back s os t
+    → IsSound t × (AreInOrder t.cutoff rest → AreInOrder s.cutoff (os ++ rest))
+due-in-order format hold_back s t os false rest is none = (
+  subst IsSound (sym none.1) is,
+  λ ordered. subst (λ (xs : List Outcome). AreInOrder s.cutoff (xs ++ rest)) (sym none.0)
+      (subst (λ (x : PopState). AreInOrder x.cutoff rest) none.1 ordered),
+)
+due-in-order format hold_back s t os true rest is takes = takes-in-order rest is takes
+
 -- and of packets that come
-records-in-order : {format : Format} {hold_back most : ℕ} {s t : PopState} {ps : List Packet} {os : List Outcome}
-    (rest : List Outcome) → IsSound s → Records format hold_back most s ps os t
+records-in-order : {format : Format} {waiting : Waiting} {s t : PopState} {ps : List Packet} {os : List Outcome}
+    (rest : List Outcome) → IsSound s → Records format waiting s ps os t
     → IsSound t × (AreInOrder t.cutoff rest → AreInOrder s.cutoff (os ++ rest))
 records-in-order rest is NoMore = (is, λ ordered. ordered)
-records-in-order {most = most} rest is (Comes {s = s} {m = m} {t = t} {p = p} {os = os} {more = more} one left) =
-    let first = takes-in-order (more ++ rest) (sound-pushed most s p is) one in
+records-in-order {format} {waiting} rest is (Comes {s = s} {m = m} {t = t} {p = p} {more = more} os one left) =
+    let held = pop_state (pushed waiting.most s.cutoff s.held p) s.cutoff s.fragment in
+    let first = due-in-order format waiting.hold_back held m os (has_begun format waiting held) (more ++ rest) (sound-pushed waiting.most s p is) one in
     let after = records-in-order rest first.0 left in (
       after.0,
       λ ordered. subst (λ (xs : List Outcome). AreInOrder s.cutoff xs) (sym (append_assoc os more rest))
@@ -272,7 +285,7 @@ records-in-order {most = most} rest is (Comes {s = s} {m = m} {t = t} {p = p} {o
     )
 
 pub in_order : RecordingLaw
-in_order format hold_back most fragment packets recorded is =
+in_order format waiting fragment packets recorded is =
     let begun : IsSound (pop_state [] None fragment) = record { rising = tt; above = tt } in
     let come = records-in-order is.rest begun is.come in
     let left = takes-in-order [] come.0 is.left in
@@ -280,24 +293,24 @@ in_order format hold_back most fragment packets recorded is =
     (come.1 (subst (λ (xs : List Outcome). AreInOrder is.middle.cutoff xs) (append-nil is.rest) (left.1 tt)))
 
 -- a recording goes on packet by packet, and ends with what is left
-went-on : {format : Format} {hold_back most : ℕ} {s m : PopState} {packets : List Packet} {recorded : List Outcome}
-    (t : PopState) (p : Packet) (more : List Outcome) → Records format hold_back most s packets recorded m
-    → Takes format hold_back NoneDue (pop_state (pushed most m.cutoff m.held p) m.cutoff m.fragment) more t
-    → Records format hold_back most s (packets ++ p ∷ []) (recorded ++ more) t
-went-on {format} {hold_back} {most} t p more (NoMore {s = s}) one =
-    subst (λ (xs : List Outcome). Records format hold_back most s (p ∷ []) xs t) (append-nil more) (Comes one NoMore)
-went-on {format} {hold_back} {most} t p more (Comes {s = s} {p = q} {ps = ps} {os = os} {more = others} first rest) one
+went-on : {format : Format} {waiting : Waiting} {s m : PopState} {packets : List Packet} {recorded : List Outcome}
+    (t : PopState) (p : Packet) (more : List Outcome) → Records format waiting s packets recorded m
+    → TakesDue format waiting (pop_state (pushed waiting.most m.cutoff m.held p) m.cutoff m.fragment) more t
+    → Records format waiting s (packets ++ p ∷ []) (recorded ++ more) t
+went-on {format} {waiting} t p more (NoMore {s = s}) one =
+    subst (λ (xs : List Outcome). Records format waiting s (p ∷ []) xs t) (append-nil more) (Comes more one NoMore)
+went-on {format} {waiting} t p more (Comes {s = s} {p = q} {ps = ps} {more = others} os first rest) one
     =
-    subst (λ (xs : List Outcome). Records format hold_back most s (q ∷ ps ++ p ∷ []) xs t)
-    (sym (append_assoc os others more)) (Comes first (went-on t p more rest one))
+    subst (λ (xs : List Outcome). Records format waiting s (q ∷ ps ++ p ∷ []) xs t)
+    (sym (append_assoc os others more)) (Comes os first (went-on t p more rest one))
 
 pub steps : StepLaw
-steps format hold_back most s m t packets p recorded more so one = went-on t p more so one
+steps format waiting s m t packets p recorded more so one = went-on t p more so one
 
-ended : (format : Format) (hold_back most : ℕ) (fragment : Fragment) (packets : List Packet) (middle end : PopState)
-    (first rest : List Outcome) → Records format hold_back most (pop_state [] None fragment) packets first middle
-    → Takes format 0 NoneDue middle rest end → IsRecordingOf format hold_back most fragment packets (first ++ rest)
-ended format hold_back most fragment packets middle end first rest come left = record {
+ended : (format : Format) (waiting : Waiting) (fragment : Fragment) (packets : List Packet) (middle end : PopState)
+    (first rest : List Outcome) → Records format waiting (pop_state [] None fragment) packets first middle
+    → Takes format 0 NoneDue middle rest end → IsRecordingOf format waiting fragment packets (first ++ rest)
+ended format waiting fragment packets middle end first rest come left = record {
   middle = middle;
   end = end;
   first = first;

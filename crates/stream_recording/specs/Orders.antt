@@ -4,27 +4,27 @@ use Rattle.payload_core_base.specs.Format.{Format, Fragment}
 use Rattle.payload_core_buffer.specs.Buffered.{is_done, pushed}
 use Rattle.payload_core_buffer.specs.Packets.{Packet}
 use Rattle.payload_core_buffer.specs.Pops.{PopState, pop_state}
-use Rattle.stream_recording.specs.Recorded.{NoneDue, Outcome, Takes}
+use Rattle.stream_recording.specs.Recorded.{NoneDue, Outcome, Takes, TakesDue, Waiting}
 
 -- Packets that come one after another, and what is recorded of them until then.
-pub data Records (format : Format) (hold_back most : ℕ) : PopState → List Packet → List Outcome → PopState → Type 0
+pub data Records (format : Format) (waiting : Waiting) : PopState → List Packet → List Outcome → PopState → Type 0
   where
-    NoMore : {s : PopState} → Records format hold_back most s [] [] s
-    Comes : {s m t : PopState} {p : Packet} {ps : List Packet} {os more : List Outcome}
-        (one : Takes format hold_back NoneDue
-        (pop_state (pushed most s.cutoff s.held p) s.cutoff s.fragment) os m)
-        (rest : Records format hold_back most m ps more t)
-        → Records format hold_back most s (p ∷ ps) (os ++ more) t
+    NoMore : {s : PopState} → Records format waiting s [] [] s
+    Comes : {s m t : PopState} {p : Packet} {ps : List Packet} {more : List Outcome} (os : List Outcome)
+        (one : TakesDue format waiting
+        (pop_state (pushed waiting.most s.cutoff s.held p) s.cutoff s.fragment) os m)
+        (rest : Records format waiting m ps more t)
+        → Records format waiting s (p ∷ ps) (os ++ more) t
 
 -- The recording of a stream whose packets came in this order, with the frames that are left at its end.
-pub record IsRecordingOf (format : Format) (hold_back most : ℕ) (fragment : Fragment) (packets : List Packet)
+pub record IsRecordingOf (format : Format) (waiting : Waiting) (fragment : Fragment) (packets : List Packet)
     (recorded : List Outcome) : Type 0
   where
     pub middle : PopState
     pub end : PopState
     pub first : List Outcome
     pub rest : List Outcome
-    pub come : Records format hold_back most (pop_state [] None fragment) packets first middle
+    pub come : Records format waiting (pop_state [] None fragment) packets first middle
     pub left : Takes format 0 NoneDue middle rest end
     pub all : recorded ≡ first ++ rest
 
@@ -36,18 +36,18 @@ AreInOrder cutoff (Err e ∷ os) = AreInOrder cutoff os
 
 -- A recording goes on packet by packet.
 abbrev pub StepLaw : Type 0
-StepLaw = (format : Format) (hold_back most : ℕ) (s m t : PopState) (packets : List Packet) (p : Packet)
-    (recorded more : List Outcome) → Records format hold_back most s packets recorded m
-    → Takes format hold_back NoneDue (pop_state (pushed most m.cutoff m.held p) m.cutoff m.fragment) more t
-    → Records format hold_back most s (packets ++ p ∷ []) (recorded ++ more) t
+StepLaw = (format : Format) (waiting : Waiting) (s m t : PopState) (packets : List Packet) (p : Packet)
+    (recorded more : List Outcome) → Records format waiting s packets recorded m
+    → TakesDue format waiting (pop_state (pushed waiting.most m.cutoff m.held p) m.cutoff m.fragment) more t
+    → Records format waiting s (packets ++ p ∷ []) (recorded ++ more) t
 
 -- And it ends with the frames that are left.
 abbrev pub EndLaw : Type 0
-EndLaw = (format : Format) (hold_back most : ℕ) (fragment : Fragment) (packets : List Packet) (middle end : PopState)
-    (first rest : List Outcome) → Records format hold_back most (pop_state [] None fragment) packets first middle
-    → Takes format 0 NoneDue middle rest end → IsRecordingOf format hold_back most fragment packets (first ++ rest)
+EndLaw = (format : Format) (waiting : Waiting) (fragment : Fragment) (packets : List Packet) (middle end : PopState)
+    (first rest : List Outcome) → Records format waiting (pop_state [] None fragment) packets first middle
+    → Takes format 0 NoneDue middle rest end → IsRecordingOf format waiting fragment packets (first ++ rest)
 
 abbrev pub RecordingLaw : Type 0
-RecordingLaw = (format : Format) (hold_back most : ℕ) (fragment : Fragment) (packets : List Packet)
-    (recorded : List Outcome) → IsRecordingOf format hold_back most fragment packets recorded
+RecordingLaw = (format : Format) (waiting : Waiting) (fragment : Fragment) (packets : List Packet)
+    (recorded : List Outcome) → IsRecordingOf format waiting fragment packets recorded
     → AreInOrder None recorded
