@@ -4,6 +4,9 @@ use clap::{Arg, ArgAction, ArgMatches, Command};
 use payload_core::{MIN_HELD, is_valid_capacity};
 use std::alloc::{AllocError, Global};
 
+// The version of the program, which is that of the release.
+const VERSION: &str = "0.10.0";
+
 // How many complete frames wait for a missing one, if the arguments don't say it.
 const HOLD_BACK: usize = 1023;
 
@@ -44,7 +47,9 @@ pub(crate) struct Arguments {
     pub(crate) mkv: Option<String>,
     /// Whether files that exist are replaced.
     pub(crate) is_forced: bool,
-    /// Whether the streams are listed alone, and no file is written.
+    /// Whether a file's SHA-256 is told.
+    pub(crate) has_sums: bool,
+    /// Whether the streams are only listed, and no file is written.
     pub(crate) is_list: bool,
 }
 
@@ -94,14 +99,17 @@ pub(crate) fn command<'a>(alloc: Global) -> Result<Command<'a>, AllocError> {
     let out = "the folder that the files are written to, the current one if not given";
     let mkv = "writes all streams to one Matroska file of this name too";
     let force = "replaces files that exist";
+    let sums = "tells the SHA-256 of each file";
     let list = "lists the streams, and writes no file";
     let command = Command::new(alloc, "rtprecord")
+        .version(VERSION)
         .about("Records the streams of a capture, each to a file that a player opens")
         .arg(capture)?;
     with_bounds(alloc, with_kinds(alloc, command)?)?
         .arg(option(alloc, "out", ArgAction::Set, out))?
         .arg(option(alloc, "mkv", ArgAction::Set, mkv))?
         .arg(option(alloc, "force", ArgAction::SetTrue, force))?
+        .arg(option(alloc, "sums", ArgAction::SetTrue, sums))?
         .arg(option(alloc, "list", ArgAction::SetTrue, list))
 }
 
@@ -180,6 +188,15 @@ impl Bounds {
 }
 
 impl Arguments {
+    /// The names of all that is read.
+    pub(crate) fn inputs(&self, alloc: Global) -> Result<Vec<&str>, AllocError> {
+        let mut names = Vec::new(alloc);
+        for name in self.captures.iter().chain(self.texts.iter()) {
+            names.push(name.as_str())?;
+        }
+        Ok(names)
+    }
+
     /// The parsed arguments; or what is wrong with one.
     pub(crate) fn of(
         alloc: Global,
@@ -209,6 +226,7 @@ impl Arguments {
                 None => None,
             },
             is_forced: matches.get_flag("force"),
+            has_sums: matches.get_flag("sums"),
             is_list: matches.get_flag("list"),
         }))
     }

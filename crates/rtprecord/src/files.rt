@@ -3,7 +3,7 @@
 use crate::gaps::{Silence, Sound};
 use crate::stream::Stream;
 use crate::units::UnitReader;
-use crate::writing::{Output, Written, part_of, settle};
+use crate::writing::{FileOptions, Output, Written};
 use anyhow::bail;
 use h26x_payload::Codec;
 use media_files::{
@@ -225,21 +225,19 @@ impl<'a> Source<'a> {
         Ok(())
     }
 
-    /// Writes the file.
-    fn write(&self, part: &str, silence: &mut Silence) -> anyhow::Result<Written> {
-        let mut output = Output::create(self.rt, part)?;
+    /// Writes the units.
+    fn write(&self, silence: &mut Silence, output: &mut Output) -> anyhow::Result<()> {
         match self.stream.row.codec {
-            Codec::Vp8 => self.write_ivf(IvfCodec::Vp8, &mut output)?,
-            Codec::Vp9 => self.write_ivf(IvfCodec::Vp9, &mut output)?,
-            Codec::Av1 => self.write_ivf(IvfCodec::Av1, &mut output)?,
-            Codec::Opus => self.write_opus(silence, &mut output)?,
-            Codec::AmrWb => self.write_amr_wb(silence, &mut output)?,
-            Codec::PCMU => self.write_wav(WavCodec::Pcmu, 0xff, silence, &mut output)?,
-            Codec::PCMA => self.write_wav(WavCodec::Pcma, 0xd5, silence, &mut output)?,
-            Codec::G722 => self.write_wav(WavCodec::G722, 0xfa, silence, &mut output)?,
-            _ => self.write_annex_b(&mut output)?,
+            Codec::Vp8 => self.write_ivf(IvfCodec::Vp8, output),
+            Codec::Vp9 => self.write_ivf(IvfCodec::Vp9, output),
+            Codec::Av1 => self.write_ivf(IvfCodec::Av1, output),
+            Codec::Opus => self.write_opus(silence, output),
+            Codec::AmrWb => self.write_amr_wb(silence, output),
+            Codec::PCMU => self.write_wav(WavCodec::Pcmu, 0xff, silence, output),
+            Codec::PCMA => self.write_wav(WavCodec::Pcma, 0xd5, silence, output),
+            Codec::G722 => self.write_wav(WavCodec::G722, 0xfa, silence, output),
+            _ => self.write_annex_b(output),
         }
-        output.end()
     }
 }
 
@@ -250,18 +248,24 @@ pub(crate) fn write_file(
     sets: &[Vec<u8>],
     name: &str,
     silence: &mut Silence,
-    is_forced: bool,
+    options: FileOptions<'_>,
 ) -> anyhow::Result<Written> {
     if let Some(fault) = stream.units.fault() {
         bail!("its units couldn't be put away: {fault}")
     }
-    let part = part_of(rt, name, is_forced)?;
+    options.allow(rt, name)?;
     let source = Source {
         rt,
         alloc: rt.alloc(),
         stream,
         sets,
     };
-    let written = source.write(&part, silence);
-    settle(rt, &part, name, written)
+    let mut output = Output::create(rt, name, options.has_sum)?;
+    match source.write(silence, &mut output) {
+        Ok(()) => output.end(rt, name, options.is_forced),
+        Err(fault) => {
+            output.discard(rt);
+            Err(fault)
+        }
+    }
 }

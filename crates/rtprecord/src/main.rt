@@ -19,6 +19,7 @@ mod hevc;
 mod input;
 mod layers;
 mod matroska;
+mod outcomes;
 mod passed;
 mod places;
 mod progress;
@@ -44,6 +45,7 @@ mod writing;
 
 use anyhow::bail;
 use arguments::{Arguments, command};
+use outcomes::write_files;
 use reading::read;
 use recorder::{Limits, Recorder};
 use rows::{no_row, rows_of};
@@ -92,9 +94,13 @@ fn run_with(rt: &HostRuntime, words: &[&str]) -> anyhow::Result<u8> {
     record(rt, arguments)
 }
 
-/// Tells what is wrong with the arguments, or the help.
+/// Tells what is wrong with the arguments; or the help or the version, if one is asked for.
 fn tell(rt: &HostRuntime, fault: &clap::Error) -> anyhow::Result<u8> {
-    eprintln!(*rt; "{fault}")?;
+    if fault.use_stderr() {
+        eprintln!(*rt; "{fault}")?;
+    } else {
+        println!(*rt; "{fault}")?;
+    }
     Ok(if fault.exit_code() == 0 { 0 } else { 2 })
 }
 
@@ -129,7 +135,9 @@ fn record_with(
         }
     }
     recorder.finish();
-    if !report::print(rt, recorder, arguments)? {
+    let files = write_files(rt, recorder, arguments)?;
+    report::print(rt, recorder, &files)?;
+    if !files.are_whole {
         return Ok(1);
     }
     if recorder.streams.values().any(|stream| stream.is_encrypted) {

@@ -6,7 +6,7 @@ use crate::reports::SenderReport;
 use crate::stream::Stream;
 use crate::tracks::{Track, framed, track_of};
 use crate::units::UnitReader;
-use crate::writing::{Output, Written, part_of, settle};
+use crate::writing::{FileOptions, Output, Written};
 use anyhow::bail;
 use media_files::{MkvBlock, MkvClusters, MkvTrack, push_mkv_front};
 use std::alloc::{AllocError, Global};
@@ -198,10 +198,9 @@ impl Writing<'_> {
         Ok((len, end))
     }
 
-    /// Writes the file.
-    fn write(&self, part: &str) -> anyhow::Result<Written> {
-        let mut output = Output::create(self.rt, part)?;
-        let (len, end) = self.push_clusters(&mut output, false)?;
+    /// Writes the streams.
+    fn write(&self, output: &mut Output) -> anyhow::Result<()> {
+        let (len, end) = self.push_clusters(output, false)?;
         let mut tracks = Vec::new(self.alloc);
         for part in self.parts {
             tracks.push(MkvTrack {
@@ -213,8 +212,8 @@ impl Writing<'_> {
             })?;
         }
         push_mkv_front(self.alloc, end, &tracks, len, &mut output.waiting)?;
-        let _written = self.push_clusters(&mut output, true)?;
-        output.end()
+        let _written = self.push_clusters(output, true)?;
+        Ok(())
     }
 }
 
@@ -255,7 +254,7 @@ pub(crate) fn write_mkv(
     rt: &HostRuntime,
     recorder: &Recorder,
     name: &str,
-    is_forced: bool,
+    options: FileOptions<'_>,
 ) -> anyhow::Result<Matroska> {
     let alloc = rt.alloc();
     let mut left_out = Vec::new(alloc);
@@ -268,14 +267,18 @@ pub(crate) fn write_mkv(
             bail!("units couldn't be put away: {fault}")
         }
     }
-    let part = part_of(rt, name, is_forced)?;
+    options.allow(rt, name)?;
     let writing = Writing {
         rt,
         alloc,
         parts: parts.as_slice(),
         start,
     };
-    let written = writing.write(&part);
-    let written = settle(rt, &part, name, written)?;
+    let mut output = Output::create(rt, name, options.has_sum)?;
+    if let Err(fault) = writing.write(&mut output) {
+        output.discard(rt);
+        return Err(fault);
+    }
+    let written = output.end(rt, name, options.is_forced)?;
     Ok(Matroska { written, left_out })
 }

@@ -1,25 +1,13 @@
-//! The list of the streams, and their files.
+//! The list of the streams, and of what came of their files.
 
-use crate::arguments::Arguments;
-use crate::files::{ending_of, write_file};
-use crate::gaps::Silence;
-use crate::matroska::write_mkv;
+use crate::outcomes::{Files, MkvFile, StreamFile};
 use crate::passed::PassedFragments;
 use crate::recorder::Recorder;
 use crate::seen::Seen;
 use crate::source::Source;
 use crate::stream::Stream;
-use std::alloc::{AllocError, Global};
+use crate::writing::Written;
 use std::io;
-
-/// The name of a stream's file, without its folder: its SSRC, the port if it is meant for one alone, and its type.
-fn name_of(alloc: Global, stream: &Stream, ending: &str) -> Result<String, AllocError> {
-    let (ssrc, pt) = (stream.ssrc.get(), stream.row.pt);
-    match stream.port {
-        Some(port) => format!(in alloc; "{ssrc:08x}-{port}-{pt}.{ending}"),
-        None => format!(in alloc; "{ssrc:08x}-{pt}.{ending}"),
-    }
-}
 
 /// How many milliseconds lie between the first unit and the last.
 fn duration(stream: &Stream) -> u64 {
@@ -72,70 +60,59 @@ fn print_times(rt: &HostRuntime, stream: &Stream) -> io::Result<()> {
     )
 }
 
-/// Prints what came of a stream, and writes its file; returns whether that is as it should be.
-fn print_stream(
-    rt: &HostRuntime,
-    stream: &Stream,
-    sets: &[Vec<u8>],
-    arguments: &Arguments,
-    silence: &mut Silence,
-) -> anyhow::Result<bool> {
+/// Prints what came of a stream's file.
+fn print_file(rt: &HostRuntime, stream: &Stream, sets: usize) -> io::Result<()> {
+    if sets > 0 && stream.file.is_named() {
+        println!(*rt; "    it begins with {sets} parameter sets of a session text")?;
+    }
+    match &stream.file {
+        StreamFile::NotAsked => Ok(()),
+        StreamFile::Unknown => println!(*rt; "    no file: none is known for this codec"),
+        StreamFile::Written(name, written) => {
+            print!(*rt; "    ")?;
+            print_written(rt, name.as_str(), written)
+        }
+        StreamFile::Failed(name, why) => println!(*rt; "    no file {name}: {why}"),
+    }
+}
+
+/// Prints how long a file is, and its sum if that was asked for.
+fn print_written(rt: &HostRuntime, name: &str, written: &Written) -> io::Result<()> {
+    let len = written.len;
+    match &written.sum {
+        Some(sum) => println!(*rt; "{name}: {len} bytes, SHA-256 {sum}"),
+        None => println!(*rt; "{name}: {len} bytes"),
+    }
+}
+
+/// Prints what came of a stream.
+fn print_stream(rt: &HostRuntime, stream: &Stream, sets: usize) -> io::Result<()> {
     print_counts(rt, stream)?;
     print_times(rt, stream)?;
+    if stream.given_up > 0 {
+        println!(*rt;
+            "    packets that waited had too many bytes, and the oldest were given up: {} times",
+            stream.given_up
+        )?;
+    }
     if stream.is_cut {
         println!(*rt; "    memory ran out, and later units are left out")?;
     }
     if stream.is_encrypted {
-        println!(*rt; "    no file: its payloads are encrypted")?;
-        return Ok(!stream.is_cut);
+        return println!(*rt; "    no file: its payloads are encrypted");
     }
-    if arguments.is_list || stream.units.count == 0 {
-        return Ok(!stream.is_cut);
-    }
-    let Some(ending) = ending_of(stream.row.codec) else {
-        println!(*rt; "    no file: none is known for this codec")?;
-        return Ok(!stream.is_cut);
-    };
-    let (out, name) = (arguments.out.as_str(), name_of(rt.alloc(), stream, ending)?);
-    let name = format!(in rt.alloc(); "{out}/{name}")?;
-    if !sets.is_empty() {
-        println!(*rt;
-            "    it begins with {} parameter sets of a session text",
-            sets.len()
-        )?;
-    }
-    match write_file(rt, stream, sets, &name, silence, arguments.is_forced) {
-        Ok(written) => {
-            let (len, sum) = (written.len, written.sum);
-            println!(*rt; "    {name}: {len} bytes, SHA-256 {sum}")?;
-            Ok(!stream.is_cut)
-        }
-        Err(fault) => {
-            println!(*rt; "    no file {name}: {fault:#}")?;
-            Ok(false)
-        }
-    }
+    print_file(rt, stream, sets)
 }
 
-/// Writes the Matroska file of all streams, if it is asked for; returns whether that is as it should be.
-fn print_mkv(rt: &HostRuntime, recorder: &Recorder, arguments: &Arguments) -> anyhow::Result<bool> {
-    let Some(name) = &arguments.mkv else {
-        return Ok(true);
-    };
-    if arguments.is_list || recorder.streams.values().all(|stream| stream.is_encrypted) {
-        return Ok(true);
-    }
-    match write_mkv(rt, recorder, name, arguments.is_forced) {
-        Ok(file) => {
-            let (len, sum) = (file.written.len, file.written.sum);
-            println!(*rt; "{name}: {len} bytes, SHA-256 {sum}")?;
-            print_left_out(rt, &file.left_out)?;
-            Ok(true)
+/// Prints what came of the Matroska file, if it was asked for.
+fn print_mkv(rt: &HostRuntime, mkv: &MkvFile) -> io::Result<()> {
+    match mkv {
+        MkvFile::NotAsked => Ok(()),
+        MkvFile::Written(name, file) => {
+            print_written(rt, name.as_str(), &file.written)?;
+            print_left_out(rt, &file.left_out)
         }
-        Err(fault) => {
-            println!(*rt; "no file {name}: {fault:#}")?;
-            Ok(false)
-        }
+        MkvFile::Failed(name, why) => println!(*rt; "no file {name}: {why}"),
     }
 }
 
@@ -240,32 +217,24 @@ fn tell_unreadable(rt: &HostRuntime, recorder: &Recorder) -> io::Result<()> {
     Ok(())
 }
 
-/// Prints each source and its streams, and writes the streams' files; returns whether all are as they should be.
-pub(crate) fn print(
-    rt: &HostRuntime,
-    recorder: &Recorder,
-    arguments: &Arguments,
-) -> anyhow::Result<bool> {
-    let mut silence = Silence::of(arguments.longest_gap, arguments.most_silence);
-    let mut is_whole = true;
+/// Prints each source and its streams, what came of their files, and what was passed over.
+pub(crate) fn print(rt: &HostRuntime, recorder: &Recorder, files: &Files) -> io::Result<()> {
     for source in recorder.sources.values() {
         print_source(rt, source)?;
         for (number, _) in &source.streams {
             if let Some(stream) = recorder.streams.get(number) {
-                let sets = recorder.rows.sets.before(stream);
-                is_whole = print_stream(rt, stream, sets, arguments, &mut silence)? && is_whole;
+                print_stream(rt, stream, recorder.rows.sets.before(stream).len())?;
             }
         }
     }
-    is_whole = print_mkv(rt, recorder, arguments)? && is_whole;
+    print_mkv(rt, &files.mkv)?;
     print_seen(rt, &recorder.seen)?;
     print_passed(rt, recorder)?;
-    if silence.shortened > 0 {
+    if files.shortened > 0 {
         println!(*rt;
             "gaps of sound that are filled in part: {}",
-            silence.shortened
+            files.shortened
         )?;
     }
-    tell_unreadable(rt, recorder)?;
-    Ok(is_whole)
+    tell_unreadable(rt, recorder)
 }

@@ -86,6 +86,15 @@ fn row_among(rows: &[Row], pt: u8, port: Option<u16>) -> Option<Row> {
     elsewhere(rows, pt)
 }
 
+/// The row of a type for a packet to this port among those that the arguments say: one for a port counts on that port,
+/// and, of captures that say no ports, if all of the type agree.
+fn given_row(rows: &[Row], pt: u8, port: Option<u16>) -> Option<Row> {
+    match port {
+        Some(port) => on_port(rows, pt, port).or(anywhere(rows, pt)),
+        None => anywhere(rows, pt).or(elsewhere(rows, pt)),
+    }
+}
+
 /// Whether a row is meant on this port.
 fn is_meant(rows: &[Row], port: Option<u16>) -> bool {
     let Some(port) = port else {
@@ -102,7 +111,7 @@ impl Rows {
     /// the last one that a text says for the port, for any port, or for other ports alone, if these agree; and last
     /// that of a static type.
     pub(crate) fn row(&self, pt: u8, port: Option<u16>) -> Option<Row> {
-        if let Some(row) = row_among(&self.given, pt, port) {
+        if let Some(row) = given_row(&self.given, pt, port) {
             return Some(row);
         }
         if let Some(row) = row_among(&self.rows, pt, port) {

@@ -2,6 +2,7 @@
 
 use crate::heads::Heads;
 use crate::layers::Layers;
+use crate::outcomes::StreamFile;
 use crate::recorder::Limits;
 use crate::row::Row;
 use crate::secrecy::FirstBytes;
@@ -16,6 +17,14 @@ use payload_core_buffer::Unit;
 use rtp_wire::{RtpHeader, Ssrc};
 use std::alloc::{AllocError, Global};
 use stream_recording::{record_packet, record_rest};
+
+// How many complete frames the first one waits for, as packets of it may come late; fewer with a smaller hold-back.
+const FIRST_FRAMES: usize = 63;
+
+// How many bytes of payload wait at most when they are looked at, and after how many that is.
+const MOST_WAITING: usize = 16_777_216;
+
+const LOOK_EVERY: usize = 4_194_304;
 
 /// Which stream it is.
 #[derive(Clone, Copy)]
@@ -47,6 +56,10 @@ pub(crate) struct Stream {
     pub(crate) heads: Heads,
     /// Whether memory ran out for its units, and the later ones are left out.
     pub(crate) is_cut: bool,
+    /// How often packets that waited were given up, since they had too many bytes.
+    pub(crate) given_up: u64,
+    /// What came of its file.
+    pub(crate) file: StreamFile,
     /// When its first packet came, in microseconds, and that packet's time.
     pub(crate) began: Option<(u64, u32)>,
     /// When its last packet came, in microseconds.
@@ -55,6 +68,10 @@ pub(crate) struct Stream {
     /// Whether its payloads are encrypted, and it isn't written.
     pub(crate) is_encrypted: bool,
     layers: Layers,
+    /// How many complete frames its first one waits for.
+    first: usize,
+    /// How many bytes came since those that wait were looked at.
+    unlooked: usize,
     buffer: DepacketizingBuffer<CodecDepacketizer<NotBoxed>>,
 }
 
@@ -89,11 +106,15 @@ impl Stream {
             units: Units::new(alloc, limits.is_kept),
             heads: Heads::new(alloc),
             is_cut: false,
+            given_up: 0,
+            file: StreamFile::NotAsked,
             began: None,
             ended: None,
             first_bytes: FirstBytes::new(),
             is_encrypted: false,
             layers: Layers::new(alloc),
+            first: limits.hold_back.min(FIRST_FRAMES),
+            unlooked: 0,
             buffer: DepacketizingBuffer::new(alloc, depacketizer, limits.hold_back, limits.held),
         })
     }
@@ -130,9 +151,23 @@ impl Stream {
         };
         self.note_layer(seq_no, payload);
         let mut recorded = Vec::new(self.alloc);
-        let taken = record_packet(&mut self.buffer, meta, payload, &mut recorded);
+        let taken = record_packet(&mut self.buffer, self.first, meta, payload, &mut recorded);
         self.keep(recorded);
         self.is_cut |= taken.is_err();
+        self.give_up(payload.len());
+    }
+
+    /// Gives the oldest packets that wait up if all that wait have too many bytes, these new ones with them. They are
+    /// looked at once for each `LOOK_EVERY` bytes that come.
+    fn give_up(&mut self, len: usize) {
+        self.unlooked = self.unlooked.saturating_add(len);
+        if self.unlooked < LOOK_EVERY {
+            return;
+        }
+        self.unlooked = 0;
+        if self.buffer.keep_within(MOST_WAITING) {
+            self.given_up = self.given_up.saturating_add(1);
+        }
     }
 
     /// Keeps the units that are left, if nothing more will come.

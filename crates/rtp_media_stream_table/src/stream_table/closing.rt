@@ -5,6 +5,7 @@ ghost use Rattle.rtp_media_stream_table.specs.Streams.{is_nth_receiver, is_nth_s
 
 use super::StreamTable;
 use crate::open_stream::OpenStream;
+use rtp_media_streams::{ReceivingStream, SendingStream};
 
 impl StreamTable {
     /// Closes a sending stream: what it holds is given back, and another one may send its datagrams. Its number is not
@@ -19,7 +20,8 @@ impl StreamTable {
         let OpenStream::Sender(sender) = &self.streams[stream] else {
             unreachable!()
         };
-        let (ssrc, types) = (sender.stream.ssrc(), sender.stream.types());
+        let sending: &SendingStream = &sender.stream;
+        let (ssrc, types) = (sending.ssrc(), sending.types());
         self.streams[stream] = OpenStream::Closed;
         self.senders.remove_types(ssrc, &types);
     }
@@ -36,7 +38,8 @@ impl StreamTable {
         let OpenStream::Receiver(receiver) = &self.streams[stream] else {
             unreachable!()
         };
-        let (ssrc, types) = (receiver.stream.ssrc(), receiver.stream.types());
+        let receiving: &ReceivingStream = &receiver.stream;
+        let (ssrc, types) = (receiving.ssrc(), receiving.types());
         self.streams[stream] = OpenStream::Closed;
         self.receivers.remove_types(ssrc, &types);
     }

@@ -11,32 +11,32 @@ use Rattle.rtp_media_stream_table.proofs.stream_table.StreamTable.add_sender.Goa
 
 pub invariant_of-self : goal.invariant_of-self
 invariant_of-self c =
-    let free : list_any (sends_as c.ssrc.result c.types.result) c.self.inside.streams.items ≡ false =
+    let free : list_any (sends_as c.ssrc-ssrc.result c.types-types.result) c.self.inside.streams.items ≡ false =
     grind (arith, common_steps) in
     may-send c.self.inside.senders c.set_types.new.self c.self.inside.receivers c.self.inside.streams.items
-    c.ssrc.result c.types.result c.set_types.ensures.others free c.self.invariant
+    c.ssrc-ssrc.result c.types-types.result c.set_types.ensures.others free c.self.invariant
 
 pub invariant_of-self-in_err-push : goal.invariant_of-self-in_err-push
 invariant_of-self-in_err-push c =
-    let free : list_any (sends_as c.ssrc.result c.types.result) c.self.inside.streams.items ≡ false =
+    let free : list_any (sends_as c.ssrc-ssrc.result c.types-types.result) c.self.inside.streams.items ≡ false =
     grind (arith, common_steps) in
     let same : c.push.new.self.items ≡ c.self.inside.streams.items = grind (arith, common_steps) in
     rw same
     (may-send c.self.inside.senders c.set_types.new.self c.self.inside.receivers c.self.inside.streams.items
-    c.ssrc.result c.types.result c.set_types.ensures.others free c.self.invariant)
+    c.ssrc-ssrc.result c.types-types.result c.set_types.ensures.others free c.self.invariant)
 
 pub invariant_of-self-2 : goal.invariant_of-self-2
 invariant_of-self-2 c =
-    let free : list_any (sends_as c.ssrc.result c.types.result) c.self.inside.streams.items ≡ false =
+    let free : list_any (sends_as c.ssrc-ssrc.result c.types-types.result) c.self.inside.streams.items ≡ false =
     grind (arith, common_steps) in
     let indexed : AreIndexed c.set_types.new.self c.self.inside.receivers c.self.inside.streams.items =
     may-send c.self.inside.senders c.set_types.new.self c.self.inside.receivers c.self.inside.streams.items
-    c.ssrc.result c.types.result c.set_types.ensures.others free c.self.invariant in
+    c.ssrc-ssrc.result c.types-types.result c.set_types.ensures.others free c.self.invariant in
     let number : c.len-number.result ≡ length c.self.inside.streams.items = grind (arith, common_steps) in
-    rw c.in_ok-push.ensures.items
+    rw c.in_ok-push.ensures.items (rw c.in_ok-slot.ensures
     (sender-added c.set_types.new.self c.self.inside.receivers c.self.inside.streams.items c.args.stream
-    c.ssrc.result c.types.result c.len-number.result (sym c.ssrc.ensures) (sym c.types.ensures) number indexed
-    c.in_ok-set_types.ensures.set)
+    c.ssrc-ssrc.result c.types-types.result c.len-number.result (sym c.ssrc-ssrc.ensures) (sym c.types-types.ensures)
+    number indexed c.in_ok-set_types.ensures.set))
 
 pub returns-clause-stream : goal.returns-clause-stream
 returns-clause-stream c =

@@ -7,10 +7,10 @@ use Rattle.rtp_media_stream_table.proofs.stream_table.StreamTable.close_receiver
 
 pub invariant_of-self : goal.invariant_of-self
 invariant_of-self c =
-    let is : nth_stream c.self.inside.streams.items c.args.stream ≡ Receiver c.in-Receiver.receiver =
+    let is : nth_stream c.self.inside.streams.items c.args.stream ≡ Receiver c.deref-receiving.result.now =
     grind (arith, common_steps) in
     let within : c.args.stream < length c.self.inside.streams.items = grind (arith, common_steps) in
     closed-receiver c.self.inside.senders c.self.inside.receivers c.remove_types.new.self c.self.inside.streams.items
-    c.args.stream c.in-Receiver.receiver c.ssrc-ssrc.result c.types-types.result is (sym c.ssrc-ssrc.ensures)
+    c.args.stream c.deref-receiving.result.now c.ssrc-ssrc.result c.types-types.result is (sym c.ssrc-ssrc.ensures)
     (sym c.types-types.ensures) within
     c.remove_types.ensures.others c.self.invariant

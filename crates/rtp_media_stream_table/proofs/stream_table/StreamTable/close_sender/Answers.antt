@@ -7,10 +7,10 @@ use Rattle.rtp_media_stream_table.proofs.stream_table.StreamTable.close_sender.G
 
 pub invariant_of-self : goal.invariant_of-self
 invariant_of-self c =
-    let is : nth_stream c.self.inside.streams.items c.args.stream ≡ Sender c.in-Sender.sender =
+    let is : nth_stream c.self.inside.streams.items c.args.stream ≡ Sender c.deref-sending.result.now =
     grind (arith, common_steps) in
     let within : c.args.stream < length c.self.inside.streams.items = grind (arith, common_steps) in
     closed-sender c.self.inside.senders c.remove_types.new.self c.self.inside.receivers c.self.inside.streams.items
-    c.args.stream c.in-Sender.sender c.ssrc-ssrc.result c.types-types.result is (sym c.ssrc-ssrc.ensures)
+    c.args.stream c.deref-sending.result.now c.ssrc-ssrc.result c.types-types.result is (sym c.ssrc-ssrc.ensures)
     (sym c.types-types.ensures) within
     c.remove_types.ensures.others c.self.invariant

@@ -10,10 +10,10 @@ use Rattle.rtp_media_stream_table.proofs.stream_table.StreamTable.drain.Goals as
 
 pub invariant_of-self : goal.invariant_of-self
 invariant_of-self c =
-    let is : nth_stream c.self.inside.streams.items c.args.stream ≡ Receiver c.in-Receiver.receiver =
+    let is : nth_stream c.self.inside.streams.items c.args.stream ≡ Receiver c.deref_mut.result.now =
     grind (arith, common_steps) in
-    let same : c.drain.new.self ≡ with_stream c.in-Receiver.receiver c.drain.new.self.stream =
-    drain-keeps c.in-Receiver.receiver c.drain.new.self (found c.drain.result) c.drain.ensures.answers in
+    let same : c.drain.new.self ≡ with_stream c.deref_mut.result.now c.drain.new.self.stream =
+    drain-keeps c.deref_mut.result.now c.drain.new.self (found c.drain.result) c.drain.ensures.answers in
     kept-receiver c.self.inside.senders c.self.inside.receivers c.self.inside.streams.items c.args.stream
-    c.in-Receiver.receiver c.drain.new.self is (ap (λ (r : Receiving). r.ssrc) same)
+    c.deref_mut.result.now c.drain.new.self is (ap (λ (r : Receiving). r.ssrc) same)
     (ap (λ (r : Receiving). r.types) same) c.self.invariant

@@ -8,9 +8,9 @@ use Rattle.rtp_media_stream_table.proofs.stream_table.StreamTable.pass_empty.Goa
 
 pub invariant_of-self : goal.invariant_of-self
 invariant_of-self c =
-    let is : nth_stream c.self.inside.streams.items c.args.stream ≡ Receiver c.in-Receiver.receiver =
+    let is : nth_stream c.self.inside.streams.items c.args.stream ≡ Receiver c.deref_mut.result.now =
     grind (arith, common_steps) in
     kept-receiver c.self.inside.senders c.self.inside.receivers c.self.inside.streams.items c.args.stream
-    c.in-Receiver.receiver c.pass_empty.new.self is
+    c.deref_mut.result.now c.pass_empty.new.self is
     (ap (λ (r : Receiving). r.ssrc) c.pass_empty.ensures.after)
     (ap (λ (r : Receiving). r.types) c.pass_empty.ensures.after) c.self.invariant

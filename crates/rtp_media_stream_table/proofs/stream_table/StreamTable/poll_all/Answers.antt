@@ -17,11 +17,11 @@ kept (Err e) answers r t polled some = some-keeps some
 
 pub invariant_of-self : goal.invariant_of-self
 invariant_of-self c =
-    let is : nth_stream c.self.inside.streams.items c.args.stream ≡ Receiver c.in-Receiver.receiver =
+    let is : nth_stream c.self.inside.streams.items c.args.stream ≡ Receiver c.deref_mut.result.now =
     grind (arith, common_steps) in
-    let same : c.poll_all.new.self ≡ with_stream c.in-Receiver.receiver c.poll_all.new.self.stream =
-    kept c.poll_all.result (λ v. v.items) c.in-Receiver.receiver c.poll_all.new.self c.poll_all.ensures.polled
+    let same : c.poll_all.new.self ≡ with_stream c.deref_mut.result.now c.poll_all.new.self.stream =
+    kept c.poll_all.result (λ v. v.items) c.deref_mut.result.now c.poll_all.new.self c.poll_all.ensures.polled
     c.poll_all.ensures.some in
     kept-receiver c.self.inside.senders c.self.inside.receivers c.self.inside.streams.items c.args.stream
-    c.in-Receiver.receiver c.poll_all.new.self is (ap (λ (r : Receiving). r.ssrc) same)
+    c.deref_mut.result.now c.poll_all.new.self is (ap (λ (r : Receiving). r.ssrc) same)
     (ap (λ (r : Receiving). r.types) same) c.self.invariant

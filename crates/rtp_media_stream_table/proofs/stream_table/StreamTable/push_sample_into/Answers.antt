@@ -8,20 +8,20 @@ use Rattle.rtp_media_stream_table.proofs.stream_table.StreamTable.push_sample_in
 
 pub invariant_of-self : goal.invariant_of-self
 invariant_of-self c =
-    let is : nth_stream c.self.inside.streams.items c.args.stream ≡ Sender c.in-Sender.sender =
+    let is : nth_stream c.self.inside.streams.items c.args.stream ≡ Sender c.deref_mut.result.now =
     grind (arith, common_steps) in
     indexed-after c.self.inside.senders c.self.inside.receivers c.self.inside.streams.items c.args.stream
-    c.in-Sender.sender c.push_sample_into.new.self c.args.time c.args.values.now c.args.bytes.now
+    c.deref_mut.result.now c.push_sample_into.new.self c.args.time c.args.values.now c.args.bytes.now
     (left_in c.push_sample_into.new.datagrams.items c.push_sample_into.result) is
     c.push_sample_into.ensures.sends c.self.invariant
 
 pub returns : goal.returns
 returns c =
-    let is : nth_stream c.self.inside.streams.items c.args.stream ≡ Sender c.in-Sender.sender =
+    let is : nth_stream c.self.inside.streams.items c.args.stream ≡ Sender c.deref_mut.result.now =
     grind (arith, common_steps) in
     let within : c.args.stream < length c.self.inside.streams.items = grind (arith, common_steps) in
     record {
-      sends = sends-at c.args.self.now c.self.inside.streams.items c.args.stream c.in-Sender.sender
+      sends = sends-at c.args.self.now c.self.inside.streams.items c.args.stream c.deref_mut.result.now
           c.push_sample_into.new.self c.args.time c.args.values.now c.args.bytes.now
           (left_in c.push_sample_into.new.datagrams.items c.push_sample_into.result) c.self.view_is within is
           c.push_sample_into.ensures.sends;

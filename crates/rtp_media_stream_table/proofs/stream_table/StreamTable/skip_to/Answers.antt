@@ -8,9 +8,9 @@ use Rattle.rtp_media_stream_table.proofs.stream_table.StreamTable.skip_to.Goals 
 
 pub invariant_of-self : goal.invariant_of-self
 invariant_of-self c =
-    let is : nth_stream c.self.inside.streams.items c.args.stream ≡ Sender c.in-Sender.sender =
+    let is : nth_stream c.self.inside.streams.items c.args.stream ≡ Sender c.deref_mut.result.now =
     grind (arith, common_steps) in
     kept-sender c.self.inside.senders c.self.inside.receivers c.self.inside.streams.items c.args.stream
-    c.in-Sender.sender c.skip_to.new.self is
+    c.deref_mut.result.now c.skip_to.new.self is
     (ap (λ (s : Sending). s.ssrc) c.skip_to.ensures)
     (ap (λ (s : Sending). s.types) c.skip_to.ensures) c.self.invariant
