@@ -7,7 +7,21 @@ pub mod Located
 pub mod Sane
 pub mod Ready
 pub mod Tame
+pub mod Tallies
+pub mod EndedFrames
+pub mod InTime
+pub mod InOrder
+pub mod TameInTime
+pub mod Rounds
+pub mod RisingNumbers
+pub mod HeldFrames
+pub mod WholeFrames
+pub mod HandedOut
+pub mod Waiting
+pub mod PollsOfWaiting
+pub mod Withheld
 pub mod Samples
+pub mod PromptSamples
 pub mod Full
 pub mod TrueNumbers
 pub mod Selections
@@ -16,3 +30,5 @@ pub mod PollSteps
 pub mod Drains
 mod NotLegal
 pub mod HoldBacks
+pub mod BareFrames
+pub mod ValuesAside

@@ -39,7 +39,7 @@ first-given h f k lo (suc n) a b none here = elim (cases_lt lo k) [
   | inr le ↦ let e : k ≡ lo = omega arith in rw (subst (λ j. h j ≡ Some f) e here) refl
 ]
 
-at-most-one : (o : Option Frame) (fs : List Frame) → length (cons_option o fs) ≤ suc (length fs)
+pub at-most-one : (o : Option Frame) (fs : List Frame) → length (cons_option o fs) ≤ suc (length fs)
 at-most-one None fs = omega arith
 at-most-one (Some f) fs = omega arith
 
@@ -301,6 +301,13 @@ module _ (format : Format) (sender : Sender) (m : ℕ) (g : SentFrame) (sent : B
       let other : (number_at those f.start == cutoff + 1) ≡ false =
       eqb-no (number_at those f.start) (cutoff + 1) (λ e. not-first f frame (omega (arith, number, e))) in
       ap₂ (λ (a b : Bool). if a || b then Some f else None) other (nat_lt-no hold_back count few)
+
+  -- so none is due while no more are complete than are held back
+  pub none-due-of : (cutoff hold_back : ℕ) → cutoff + 1 ≡ m → length (complete_frames format those) ≤ hold_back
+      → due_frame format (Some cutoff) hold_back those ≡ None
+  none-due-of cutoff hold_back next few =
+      not-due cutoff hold_back (length (complete_frames format those)) (lowest_of (complete_frames format those))
+      (λ f e. lowest_is format those f e) next few
 
   -- so none is due while enough are held back
   pub none-due : (cutoff hold_back : ℕ) → cutoff + 1 ≡ m → length upper ≤ hold_back

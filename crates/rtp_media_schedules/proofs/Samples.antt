@@ -45,7 +45,7 @@ AreWider [] (d ∷ ds) = ⊥
 AreWider (c ∷ cs) [] = ⊥
 AreWider (c ∷ cs) (d ∷ ds) = IsWider c d × AreWider cs ds
 
-wider-run : (c d : Canonical) (u : MediaUnit) → IsWider c d → IsFinalRunOf c u → IsFinalRunOf d u
+pub wider-run : (c d : Canonical) (u : MediaUnit) → IsWider c d → IsFinalRunOf c u → IsFinalRunOf d u
 wider-run c d u w is = record {
   from = omega (arith, w.first, is.from);
   in_order = is.in_order;
@@ -73,7 +73,7 @@ wider-append [] (y ∷ ys) cs ds w v = absurd w
 wider-append (x ∷ xs) [] cs ds w v = absurd w
 wider-append (x ∷ xs) (y ∷ ys) cs ds w v = (w.0, wider-append xs ys cs ds w.1 v)
 
-timed-whole : (c d : Canonical) (u : MediaUnit) → IsWider c d → u ≡ whole c u.extra → timed u.time u.values u.bytes
+pub timed-whole : (c d : Canonical) (u : MediaUnit) → IsWider c d → u ≡ whole c u.extra → timed u.time u.values u.bytes
     ≡ whole_unit d
 timed-whole c d u w is =
     let time : u.time ≡ d.time = ap (λ (v : MediaUnit). v.time) is ∙ w.time in

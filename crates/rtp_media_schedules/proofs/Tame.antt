@@ -77,11 +77,11 @@ came-below first (x ∷ xs) (Some w) y z is came a b =
     is.closed z a (omega (arith, is.greatest, among-le-greatest (x ∷ xs) y came))
 
 -- the numbers from next on that came
-abbrev numbers_of : ℕ → ℕ → List ℕ → ℕ → List ℕ
+abbrev pub numbers_of : ℕ → ℕ → List ℕ → ℕ → List ℕ
 numbers_of first count past next = filter (is_among past) (range_with_len next (first + count - next))
 
 -- a unit that begins with the first packet of a frame is all of it
-whole-is : (m a : ℕ) (g : SentFrame) (metas : List RtpMeta) (run : Run) (given : GivesUnit m a g metas run) → a ≡ m
+pub whole-is : (m a : ℕ) (g : SentFrame) (metas : List RtpMeta) (run : Run) (given : GivesUnit m a g metas run) → a ≡ m
     → given.unit ≡ whole (canonical m g) given.unit.extra
 whole-is m a g metas run given e =
     let first : given.unit.first ≡ m = given.begins ∙ e in
@@ -98,7 +98,7 @@ whole-is m a g metas run given e =
           given.unit.extra;
     }
 
-next-begins : (first next : ℕ) (cutoff : Option ℕ) → CutoffIs first next cutoff → is_next cutoff next ≡ true
+pub next-begins : (first next : ℕ) (cutoff : Option ℕ) → CutoffIs first next cutoff → is_next cutoff next ≡ true
 next-begins first next None h = refl
 next-begins first next (Some c) h = grind (arith, nat_tests)
 
@@ -128,7 +128,7 @@ module _ (format : Format) (sender : Sender) (first count opening : ℕ) (fits :
     within = λ y h. is.within y (sym (among-again past x y came) ∙ h);
   })
 
-  not_passed : (next x : ℕ) (cutoff : Option ℕ) → CutoffIs first next cutoff → next ≤ x → is_done cutoff x ≡ false
+  pub not_passed : (next x : ℕ) (cutoff : Option ℕ) → CutoffIs first next cutoff → next ≤ x → is_done cutoff x ≡ false
   not_passed next x None is h = refl
   not_passed next x (Some c) is h = grind (arith, nat_tests)
 
@@ -159,7 +159,7 @@ module _ (format : Format) (sender : Sender) (first count opening : ℕ) (fits :
         within = λ y h. grind (arith, nat_tests, is.within y, good.before_end);
       })
 
-  arrives : (past : List ℕ) (next : ℕ) (left : List ℕ) (s : Stream) (x : ℕ) → IsReached past next left s
+  pub arrives : (past : List ℕ) (next : ℕ) (left : List ℕ) (s : Stream) (x : ℕ) → IsReached past next left s
       → IsGoodArrival first count past x → waiting first count (x ∷ past) next ≤ s.holding.held
       → IsReached (x ∷ past) next left (taken_by s (hearing.number_at s (x % 65536)) (sender x))
   arrives past next left s x is good few =
@@ -189,7 +189,7 @@ module _ (format : Format) (sender : Sender) (first count opening : ℕ) (fits :
           is.held ∙ ap (map (packet sender)) (ap (λ k. filter (is_among past) (range_with_len next k)) n
           ∙ filter-come (is_among past) next size (first + count - (next + size)) came)
 
-      due-next : due format s ≡ Some (front size)
+      pub due-next : due format s ≡ Some (front size)
       unfolding due
       due-next = ap (λ ps. due_frame format s.cutoff s.holding.hold_back ps) held-front
           ∙ due-front format sender next f sent frame behind s.cutoff s.holding.hold_back
@@ -208,18 +208,18 @@ module _ (format : Format) (sender : Sender) (first count opening : ℕ) (fits :
       high-next : get_or (range_with_len next size ++ behind) 0 0 < next + size
       high-next = omega (arith, begins-next, frame.not_empty)
 
-      given : GivesUnit next (get_or (range_with_len next size ++ behind) 0 0) f
+      pub given : GivesUnit next (get_or (range_with_len next size ++ behind) 0 0) f
           (metas_of (packets_between in_front (front size))) (run_among format None in_front (front size))
       given = gives-unit format sender next f sent frame (range_with_len next size ++ behind) (front size) is-front
           low-next high-next
 
-      abbrev unit-next : MediaUnit
+      abbrev pub unit-next : MediaUnit
       unit-next = given.unit
 
-      whole-next : unit-next ≡ whole (canonical next f) unit-next.extra
+      pub whole-next : unit-next ≡ whole (canonical next f) unit-next.extra
       whole-next = whole-is next _ f _ _ given begins-next
 
-      answer-next : poll_answer format s ≡ Ok (Some unit-next)
+      pub answer-next : poll_answer format s ≡ Ok (Some unit-next)
       answer-next =
           poll_answer-is format s (Some (front size)) due-next
           ∙ ap₂ (λ (fragment : Fragment) (ps : List Packet). answer_among format fragment ps (Some (front size)))
@@ -242,7 +242,7 @@ module _ (format : Format) (sender : Sender) (first count opening : ℕ) (fits :
       came-each : (y : ℕ) → next ≤ y → y < next + size → is_among past y ≡ true
       came-each y a b = all-pass (is_among past) next size came y a b
 
-      after-next : IsReached past (next + size) (sizes fs) (stream_behind format s (Some (front size)))
+      pub after-next : IsReached past (next + size) (sizes fs) (stream_behind format s (Some (front size)))
       after-next = record {
         window = is.window;
         held = held-behind;
@@ -334,7 +334,7 @@ module _ (format : Format) (sender : Sender) (first count opening : ℕ) (fits :
         ∙ due-by s.cutoff refl
 
   -- a poll if nothing is left
-  due-ended : (past : List ℕ) (next : ℕ) (s : Stream) → IsReached past next [] s → next ≡ first + count
+  pub due-ended : (past : List ℕ) (next : ℕ) (s : Stream) → IsReached past next [] s → next ≡ first + count
       → due format s ≡ None
   unfolding due
   due-ended past next s is e =
@@ -344,7 +344,7 @@ module _ (format : Format) (sender : Sender) (first count opening : ℕ) (fits :
       ap (λ (ps : List Packet). due_frame format s.cutoff s.holding.hold_back ps) none
       ∙ none-held format s.cutoff s.holding.hold_back
 
-  holding-taken : (s : Stream) (x : ℕ) (c : Content) → (taken_by s x c).holding ≡ s.holding
+  pub holding-taken : (s : Stream) (x : ℕ) (c : Content) → (taken_by s x c).holding ≡ s.holding
   holding-taken s x c = elim (is_accepted s.window x) as
       (λ b. (if b then record {
         holding = s.holding;

@@ -51,20 +51,20 @@ recorded-refused past w x is h = record {
       grind (arith, nat_tests, e);
 }
 
-window-more : (past : List ℕ) (w : Option Window) (x : ℕ) → AreRecorded past w
+pub window-more : (past : List ℕ) (w : Option Window) (x : ℕ) → AreRecorded past w
     → AreRecorded (x ∷ past) (Some (recorded_in w x))
 window-more [] None x is = recorded-first x
 window-more [] (Some w) x is = absurd is
 window-more (y ∷ ys) None x is = absurd is
 window-more (y ∷ ys) (Some w) x is = recorded-more (y ∷ ys) w x is
 
-window-refused : (past : List ℕ) (w : Option Window) (x : ℕ) → AreRecorded past w → is_accepted w x ≡ false
+pub window-refused : (past : List ℕ) (w : Option Window) (x : ℕ) → AreRecorded past w → is_accepted w x ≡ false
     → AreRecorded (x ∷ past) w
 window-refused past None x is h = absurd (true≢false h)
 window-refused [] (Some w) x is h = absurd is
 window-refused (y ∷ ys) (Some w) x is h = recorded-refused (y ∷ ys) w x is h
 
-greatest-of : (past : List ℕ) (w : Option Window) → AreRecorded past w → GreatestIs past w
+pub greatest-of : (past : List ℕ) (w : Option Window) → AreRecorded past w → GreatestIs past w
 greatest-of [] None is = tt
 greatest-of [] (Some w) is = absurd is
 greatest-of (y ∷ ys) None is = absurd is

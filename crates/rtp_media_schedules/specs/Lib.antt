@@ -2,9 +2,12 @@ pub mod Hearing
 pub mod SentSamples
 pub mod Turns
 pub mod Orders
+pub mod InTime
 pub mod Sending
 pub mod Samples
 pub mod Legal
+pub mod Losses
 pub mod Drains
 pub mod TrueNumbers
 pub mod HoldBacks
+pub mod Bare
