@@ -2,3 +2,4 @@ pub mod Links
 pub mod Relayed
 pub mod Relaying
 pub mod WholeRuns
+pub mod ValuesAside

@@ -9,7 +9,7 @@ use Rattle.rtp_media_schedules.specs.Hearing.{Content}
 use Rattle.rtp_media_schedules.specs.Samples.{datagrams}
 use Rattle.rtp_media_schedules.specs.Sending.{no_content, numbered}
 use Rattle.rtp_media_forward.specs.Forwarding.{Forwarding, after_packet, end_before, ended_by, is_in, kept, most_pieces}
-use Rattle.rtp_media_forward.specs.Forwarding.{number_in}
+use Rattle.rtp_media_forward.specs.Forwarding.{is_next_in, number_in, passed_by, passed_empty}
 use Rattle.rtp_media_forward.specs.Forwarding.{placed_in, shifted, skipped_by, with_piece}
 use Rattle.rtp_media_forward.specs.Relayed.{AreFrom, IsOf, IsWithin, Part, content_at, count_in, count_of, piece_at}
 use Rattle.rtp_media_forward.specs.Relayed.{pieces_from, relayed, relayed_content}
@@ -431,3 +431,49 @@ ends out from parts p f is small le at =
     ap (λ (o : Option Piece). (ended_by f o from).next) last
     ∙ ends-by f (piece_at (out + count_of parts) p) from (out + count_of (parts ++ p ∷ [])) (omega (arith, at))
     (omega (arith, at, count-append parts (p ∷ []))) small le
+
+-- if a part's next packet carries nothing
+passes-by : (f : Forwarding) (p : Piece) (number : ℕ) → p.first ≤ number → number < 2 ^ 62
+    → number_in p number ≡ f.next → f.next < 2 ^ 62
+    → passed_by f (Some p) p.source number ≡ with_piece f p.source (number + 1) p.shift
+passes-by f p number from small is fits =
+    ap (λ (b : Bool). if b then with_piece f p.source (number + 1) p.shift else f) test where
+      all : (a b c d e : Bool) → a ≡ true → b ≡ true → c ≡ true → d ≡ true → e ≡ true
+          → ((a && (b && c)) && (d && e)) ≡ true
+      all true true true true true v w x y z = refl
+      all true true true true false v w x y z = z
+      all true true true false e v w x y z = y
+      all true true false d e v w x y z = x
+      all true false c d e v w x y z = w
+      all false b c d e v w x y z = v
+
+      test : is_next_in f (Some p) p.source number ≡ true
+      test = all (p.source == p.source) (nat_le p.first number) (nat_lt (number_in p number) (2 ^ 62))
+          (nat_lt number (2 ^ 62)) (number_in p number == f.next)
+          (grind (arith, nat_tests)) (grind (arith, nat_tests)) (grind (arith, nat_tests)) (grind (arith, nat_tests))
+          (grind (arith, nat_tests))
+
+module _ (out number : ℕ) (parts : List Part) (p q : Part) (f : Forwarding)
+    (is : f.pieces ≡ pieces_from out (parts ++ p ∷ [])) (next : f.next ≡ out + count_of (parts ++ p ∷ []))
+    (fits : out + count_of (parts ++ p ∷ []) < 2 ^ 62) (at : number ≡ p.first + count_in p) (small : number < 2 ^ 62)
+  where
+    passed-is : passed_empty f p.source number ≡ with_piece f p.source (number + 1) p.shift
+    passed-is =
+        let split : f.pieces ≡ pieces_from out parts ++ piece_at (out + count_of parts) p ∷ [] =
+        is ∙ pieces-append out parts (p ∷ []) in
+        let last : slice_get f.pieces (length f.pieces - 1) ≡ Some (piece_at (out + count_of parts) p) =
+        ap (λ (ps : List Piece). slice_get ps (length ps - 1)) split
+        ∙ last-at (pieces_from out parts) (piece_at (out + count_of parts) p) in
+        ap (λ (o : Option Piece). passed_by f o p.source number) last
+        ∙ passes-by f (piece_at (out + count_of parts) p) number (omega (arith, at)) small
+        (omega (arith, at, next, count-append parts (p ∷ []))) (omega (arith, next, fits))
+
+    pub passes : q.first ≡ number + 1 → q.source ≡ p.source → q.shift ≡ p.shift
+        → ((passed_empty f p.source number).pieces ≡ kept (pieces_from out (parts ++ p ∷ q ∷ [])))
+        × ((passed_empty f p.source number).next ≡ f.next)
+    passes from by timed = (
+      ap (λ (g : Forwarding). g.pieces) passed-is
+          ∙ one-more out p.shift (number + 1) p.source (parts ++ p ∷ []) q f is next from by timed
+          ∙ ap (λ (ps : List Part). kept (pieces_from out ps)) (append_assoc parts (p ∷ []) (q ∷ [])),
+      ap (λ (g : Forwarding). g.next) passed-is,
+    )

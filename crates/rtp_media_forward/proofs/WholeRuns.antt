@@ -6,11 +6,12 @@ use Rattle.rtp_wire.specs.declared.values.ExtensionValues.{ExtensionValues}
 use Rattle.rtp_media_schedules.specs.Hearing.{Content}
 use Rattle.rtp_media_schedules.specs.Samples.{datagrams}
 use Rattle.rtp_media_schedules.specs.Sending.{numbered}
-use Rattle.rtp_media_forward.specs.Forwarding.{Forwarding, end_of_numbers, ended_by, is_in, kept, number_in}
-use Rattle.rtp_media_forward.specs.Forwarding.{reserved_by, shift_to, skipped_by, with_piece}
+use Rattle.rtp_media_forward.specs.Forwarding.{Forwarding, end_of_numbers, ended_by, is_in, is_next_in, kept, number_in}
+use Rattle.rtp_media_forward.specs.Forwarding.{passed_by, reserved_by, shift_to, skipped_by, with_piece}
 use Rattle.rtp_media_forward.specs.Relayed.{AreFrom, IsWithin, Part, count_in, count_of, pieces_from, relayed}
 use Rattle.rtp_media_forward.specs.Relaying.{AreBetween, Packet, Sent, content_with, datagrams_at, place_of}
-use Rattle.rtp_media_forward.specs.Steps.{Begins, BeginsAt, Come, EndAt, GoesOnFrom, IsKeptBy, IsRun, IsSound, Reserve}
+use Rattle.rtp_media_forward.specs.Steps.{Begins, BeginsAt, Come, Empty, EndAt, GoesOnFrom, IsKeptBy, IsRun, IsSound}
+use Rattle.rtp_media_forward.specs.Steps.{Reserve}
 use Rattle.rtp_media_forward.specs.Steps.{SkipTo, Step, Switch, after_step, last_piece, numbers_at, numbers_in}
 use Rattle.rtp_media_forward.specs.Steps.{sent_at, sent_in}
 use Rattle.rtp_media_forward.specs.declared.forwarder.Piece.{Piece}
@@ -69,6 +70,13 @@ module _ (first : ℕ) (begun : List Part) (q : Part) (f : Forwarding) (at : IsA
   skip-at None number is = absurd is
   skip-at (Some p) number is = more first p.source number p.shift begun q f at next is
 
+  empty-at : (o : Option Piece) (source number : ℕ) → is_next_in f o source number ≡ true
+      → GoesOnFrom o q (number + 1) → IsAt first (begun ++ q ∷ []) (passed_by f o source number)
+  empty-at None source number e is = absurd is
+  empty-at (Some p) source number e is =
+      subst (λ (b : Bool). IsAt first (begun ++ q ∷ []) (if b then with_piece f p.source (number + 1) p.shift else f))
+      (sym e) (more first p.source (number + 1) p.shift begun q f at next is)
+
   reserve-at : (o : Option Piece) (count : ℕ) → IsKeptBy o q → IsAt first (begun ++ q ∷ []) (reserved_by f o count)
   reserve-at None count is =
       still-at first (begun ++ q ∷ []) (with_piece f 0 end_of_numbers 0) (reserved_by f None count)
@@ -83,6 +91,7 @@ module _ (first : ℕ) (begun : List Part) (q : Part) (f : Forwarding) (at : IsA
   begin-at senders (Switch source number time to) is =
       more first source number (shift_to time to) begun q f at next is
   begin-at senders (SkipTo number) is = skip-at (last_piece f) number is
+  begin-at senders (Empty source number) is = empty-at (last_piece f) source number is.0 is.1
   begin-at senders (EndAt number) is = absurd is
   begin-at senders (Reserve count) is = reserve-at (last_piece f) count is.0
 
@@ -94,12 +103,21 @@ ended-pieces f (Some p) number = by (is_in p (2 ^ 62) p.source number) where
   by true = refl
   by false = refl
 
+not-passed : (f : Forwarding) (o : Option Piece) (source number : ℕ) → is_next_in f o source number ≡ false
+    → passed_by f o source number ≡ f
+not-passed f None source number e = refl
+not-passed f (Some p) source number e =
+    ap (λ (b : Bool). if b then with_piece f p.source (number + 1) p.shift else f) e
+
 sound-at : (senders : ℕ → ℕ → Content) (first : ℕ) (begun : List Part) (f : Forwarding) (x : Step)
-    → IsAt first begun f → IsSound begun x → IsAt first begun (after_step senders f x)
+    → IsAt first begun f → IsSound begun f x → IsAt first begun (after_step senders f x)
 sound-at senders first begun f (Come p) at sound =
     still-at first begun f (after_step senders f (Come p)) at (after-pieces f (place_of senders f p))
 sound-at senders first begun f (Switch source number time to) at sound = absurd sound
 sound-at senders first begun f (SkipTo number) at sound = absurd sound
+sound-at senders first begun f (Empty source number) at sound =
+    still-at first begun f (after_step senders f (Empty source number)) at
+    (ap (λ (g : Forwarding). g.pieces) (not-passed f (last_piece f) source number sound))
 sound-at senders first begun f (EndAt number) at sound =
     still-at first begun f (after_step senders f (EndAt number)) at (ended-pieces f (last_piece f) number)
 sound-at senders first begun f (Reserve count) at sound = absurd sound
@@ -154,22 +172,24 @@ module _ (values : ExtensionValues → ExtensionValues) (senders : ℕ → ℕ �
           omega (arith, ends.1, many),
         )
 
-    sound-sends : (x : Step) (rest : List Sent) (ns : List ℕ) → IsSound begun x → rest ≡ datagrams_at sender ns
+    sound-sends : (x : Step) (rest : List Sent) (ns : List ℕ) → IsSound begun f x → rest ≡ datagrams_at sender ns
         → sent_at values senders f x ++ rest ≡ datagrams_at sender (numbers_at senders f x ++ ns)
     sound-sends (Come p) rest ns sound ih =
         sends-step values (senders p.source p.number) sender (place_of senders f p) rest ns
         (λ q e. brings p q sound e) ih
     sound-sends (Switch source number time to) rest ns sound ih = absurd sound
     sound-sends (SkipTo number) rest ns sound ih = absurd sound
+    sound-sends (Empty source number) rest ns sound ih = ih
     sound-sends (EndAt number) rest ns sound ih = ih
     sound-sends (Reserve count) rest ns sound ih = absurd sound
 
-    sound-between : (x : Step) (ns : List ℕ) → IsSound begun x → AreBetween first (first + count_of all) ns
+    sound-between : (x : Step) (ns : List ℕ) → IsSound begun f x → AreBetween first (first + count_of all) ns
         → AreBetween first (first + count_of all) (numbers_at senders f x ++ ns)
     sound-between (Come p) ns sound ih =
         between-step first (first + count_of all) (place_of senders f p) ns (λ q e. is-between p q sound e) ih
     sound-between (Switch source number time to) ns sound ih = absurd sound
     sound-between (SkipTo number) ns sound ih = absurd sound
+    sound-between (Empty source number) ns sound ih = ih
     sound-between (EndAt number) ns sound ih = ih
     sound-between (Reserve count) ns sound ih = absurd sound
 
@@ -180,6 +200,7 @@ module _ (values : ExtensionValues → ExtensionValues) (senders : ℕ → ℕ �
   begin-sends f q (Come p) rest ns is ih = absurd is
   begin-sends f q (Switch source number time to) rest ns is ih = ih
   begin-sends f q (SkipTo number) rest ns is ih = ih
+  begin-sends f q (Empty source number) rest ns is ih = ih
   begin-sends f q (EndAt number) rest ns is ih = absurd is
   begin-sends f q (Reserve count) rest ns is ih = ih
 
@@ -189,6 +210,7 @@ module _ (values : ExtensionValues → ExtensionValues) (senders : ℕ → ℕ �
   begin-between f q (Come p) ns is ih = absurd is
   begin-between f q (Switch source number time to) ns is ih = ih
   begin-between f q (SkipTo number) ns is ih = ih
+  begin-between f q (Empty source number) ns is ih = ih
   begin-between f q (EndAt number) ns is ih = absurd is
   begin-between f q (Reserve count) ns is ih = ih
 

@@ -1,6 +1,6 @@
 -- How the packets of sources are numbered and timed if they are sent on.
 use Rattle.std.specs.Prelude.{ℕ, ◌+◌, ◌-◌, ◌%◌, ◌^◌, ◌&&◌, ◌==◌, nat_le, nat_lt, max, if◌then◌else◌, List, [], ◌∷◌}
-use Rattle.std.specs.Prelude.{◌++◌, length, drop, Bool, Option, Some, None, slice_get}
+use Rattle.std.specs.Prelude.{◌++◌, length, drop, Bool, false, Option, Some, None, slice_get}
 use Rattle.rtp_media_forward.specs.declared.forwarder.Piece.{Piece}
 use Rattle.rtp_media_forward.specs.declared.forwarder.Placed.{Placed}
 
@@ -83,6 +83,24 @@ skipped_by f (Some p) number = with_piece f p.source number p.shift
 -- The source that is sent on last, from a later packet on, on its own clock.
 abbrev pub skipped : Forwarding → ℕ → Forwarding
 skipped f number = skipped_by f (slice_get f.pieces (length f.pieces - 1)) number
+
+-- Whether a source's packet of this number would get the next number, in the source's last piece.
+abbrev pub is_next_in : Forwarding → Option Piece → (source number : ℕ) → Bool
+is_next_in f None source number = false
+is_next_in f (Some p) source number =
+    is_in p (2 ^ 62) source number && (nat_lt number (2 ^ 62) && (number_in p number == f.next))
+
+abbrev pub is_next_of : Forwarding → (source number : ℕ) → Bool
+is_next_of f source number = is_next_in f (slice_get f.pieces (length f.pieces - 1)) source number
+
+-- After a packet that carries nothing: if it would get the next number, the packet after it gets that number.
+abbrev pub passed_by : Forwarding → Option Piece → (source number : ℕ) → Forwarding
+passed_by f None source number = f
+passed_by f (Some p) source number =
+    if is_next_in f (Some p) source number then with_piece f p.source (number + 1) p.shift else f
+
+abbrev pub passed_empty : Forwarding → (source number : ℕ) → Forwarding
+passed_empty f source number = passed_by f (slice_get f.pieces (length f.pieces - 1)) source number
 
 -- No packet of a source has a number from here on.
 abbrev pub end_of_numbers : ℕ

@@ -1,6 +1,8 @@
 -- What is sent on of sources' datagrams that come.
 use Rattle.std.specs.Prelude.{ℕ, ◌<◌, ◌≤◌, List, [], ◌∷◌, ◌++◌, map, Option, Some, None}
 use Rattle.rtp_wire.specs.declared.values.ExtensionValues.{ExtensionValues}
+use Rattle.rtp_wire.specs.Values.{absent}
+use Rattle.rtp_media_schedules.specs.Bare.{bare}
 use Rattle.rtp_media_schedules.specs.Hearing.{Content}
 use Rattle.rtp_media_forward.specs.Forwarding.{Forwarding, after_packet, placed}
 use Rattle.rtp_media_forward.specs.Relayed.{IsWithin, Part}
@@ -60,3 +62,13 @@ datagrams_at sender ys = map (λ y. record { number = y; content = sender y }) y
 abbrev pub AreBetween : ℕ → ℕ → List ℕ → Type 0
 AreBetween from end [] = Unit {0}
 AreBetween from end (y ∷ ys) = (from ≤ y) × (y < end) × AreBetween from end ys
+
+-- Without values: what sources send, what is sent on of it, and what becomes of values then.
+abbrev pub bare_senders : (ℕ → ℕ → Content) → ℕ → ℕ → Content
+bare_senders senders source number = bare (senders source number)
+
+abbrev pub bare_sent : Sent → Sent
+bare_sent s = record { number = s.number; content = bare s.content }
+
+abbrev pub no_values : ExtensionValues → ExtensionValues
+no_values v = absent

@@ -1,9 +1,10 @@
 -- A whole run of a forwarder: packets that come, and parts that begin and end between them.
 use Rattle.std.specs.Prelude.{◌≡◌, ℕ, ◌+◌, ◌-◌, ◌⊎◌, List, [], ◌∷◌, ◌++◌, length, Option, Some, None, slice_get}
+use Rattle.std.specs.Prelude.{true, false}
 use Rattle.rtp_wire.specs.declared.values.ExtensionValues.{ExtensionValues}
 use Rattle.rtp_media_schedules.specs.Hearing.{Content}
 use Rattle.rtp_media_forward.specs.Forwarding.{Forwarding, after_packet, end_of_numbers, ended, reserved, shift_to}
-use Rattle.rtp_media_forward.specs.Forwarding.{skipped, switched}
+use Rattle.rtp_media_forward.specs.Forwarding.{is_next_of, passed_empty, skipped, switched}
 use Rattle.rtp_media_forward.specs.Relayed.{IsWithin, Part, count_in, count_of}
 use Rattle.rtp_media_forward.specs.Relaying.{Packet, Sent, number_of, place_of, sent_by}
 use Rattle.rtp_media_forward.specs.declared.forwarder.Piece.{Piece}
@@ -13,6 +14,7 @@ pub data Step : Type 0 where
   Come : (packet : Packet) → Step
   Switch : (source number time at : ℕ) → Step
   SkipTo : (number : ℕ) → Step
+  Empty : (source number : ℕ) → Step
   EndAt : (number : ℕ) → Step
   Reserve : (count : ℕ) → Step
 
@@ -20,6 +22,7 @@ abbrev pub after_step : (ℕ → ℕ → Content) → Forwarding → Step → Fo
 after_step senders f (Come p) = after_packet f (place_of senders f p)
 after_step senders f (Switch source number time at) = switched f source number time at
 after_step senders f (SkipTo number) = skipped f number
+after_step senders f (Empty source number) = passed_empty f source number
 after_step senders f (EndAt number) = ended f number
 after_step senders f (Reserve count) = reserved f count
 
@@ -28,6 +31,7 @@ abbrev pub sent_at : (ExtensionValues → ExtensionValues) → (ℕ → ℕ → 
 sent_at values senders f (Come p) = sent_by values (place_of senders f p) (senders p.source p.number)
 sent_at values senders f (Switch source number time at) = []
 sent_at values senders f (SkipTo number) = []
+sent_at values senders f (Empty source number) = []
 sent_at values senders f (EndAt number) = []
 sent_at values senders f (Reserve count) = []
 
@@ -35,6 +39,7 @@ abbrev pub numbers_at : (ℕ → ℕ → Content) → Forwarding → Step → Li
 numbers_at senders f (Come p) = number_of (place_of senders f p)
 numbers_at senders f (Switch source number time at) = []
 numbers_at senders f (SkipTo number) = []
+numbers_at senders f (Empty source number) = []
 numbers_at senders f (EndAt number) = []
 numbers_at senders f (Reserve count) = []
 
@@ -66,28 +71,32 @@ IsKeptBy (Some p) q = Begins q p.source end_of_numbers p.shift
 abbrev pub last_piece : Forwarding → Option Piece
 last_piece f = slice_get f.pieces (length f.pieces - 1)
 
--- What a step needs after these parts: a packet isn't one of the last part's source after its end.
-abbrev pub IsSound : List Part → Step → Type 0
-IsSound begun (Come p) = IsWithin begun p.source p.number
-IsSound begun (Switch source number time at) = ⊥
-IsSound begun (SkipTo number) = ⊥
-IsSound begun (EndAt number) = Unit {0}
-IsSound begun (Reserve count) = ⊥
+-- What a step needs after these parts if no part begins at it: a packet isn't one of the last part's source after its
+-- end, and a number that carries nothing isn't the next one.
+abbrev pub IsSound : List Part → Forwarding → Step → Type 0
+IsSound begun f (Come p) = IsWithin begun p.source p.number
+IsSound begun f (Switch source number time at) = ⊥
+IsSound begun f (SkipTo number) = ⊥
+IsSound begun f (Empty source number) = is_next_of f source number ≡ false
+IsSound begun f (EndAt number) = Unit {0}
+IsSound begun f (Reserve count) = ⊥
 
 -- A part that begins at a step.
 abbrev pub BeginsAt : Forwarding → Step → Part → Type 0
 BeginsAt f (Come p) q = ⊥
 BeginsAt f (Switch source number time at) q = Begins q source number (shift_to time at)
 BeginsAt f (SkipTo number) q = GoesOnFrom (last_piece f) q number
+BeginsAt f (Empty source number) q =
+    (is_next_of f source number ≡ true) × GoesOnFrom (last_piece f) q (number + 1)
 BeginsAt f (EndAt number) q = ⊥
 BeginsAt f (Reserve count) q = IsKeptBy (last_piece f) q × (count_in q ≡ count)
 
--- A run that sends parts on, where the first of them have begun: each later one begins once all numbers of those before
--- it are given or told.
+-- A run that sends parts on, of which the first ones have begun: each later one begins when all numbers of those before
+-- it were given, or the forwarder knows where they end.
 abbrev pub IsRun : (ℕ → ℕ → Content) → ℕ → List Part → Forwarding → List Part → List Step → Type 0
 IsRun senders first begun f later [] = Unit {0}
-IsRun senders first begun f [] (x ∷ xs) = IsSound begun x × IsRun senders first begun (after_step senders f x) [] xs
+IsRun senders first begun f [] (x ∷ xs) = IsSound begun f x × IsRun senders first begun (after_step senders f x) [] xs
 IsRun senders first begun f (q ∷ later) (x ∷ xs) =
-    (IsSound begun x × IsRun senders first begun (after_step senders f x) (q ∷ later) xs)
+    (IsSound begun f x × IsRun senders first begun (after_step senders f x) (q ∷ later) xs)
     ⊎ ((f.next ≡ first + count_of begun) × BeginsAt f x q
     × IsRun senders first (begun ++ q ∷ []) (after_step senders f x) later xs)

@@ -3,7 +3,7 @@
 ghost use Rattle.std.specs.Prelude.{◌≡◌, ◌+◌, ◌<◌, ◌≤◌, ◌^◌, IfErr, IfOk, IfSome, OnErr, OnOk};
 ghost use Rattle.rtp_media_forward.specs.Forwarding.{after_packet, end_before, ended, is_in, nothing_from};
 ghost use Rattle.rtp_media_forward.specs.Forwarding.{placed, placed_in, reserved, shift_to, skipped, switched};
-ghost use Rattle.rtp_media_forward.specs.Forwarding.{with_piece};
+ghost use Rattle.rtp_media_forward.specs.Forwarding.{is_next_of, passed_empty, with_piece};
 ghost use Rattle.rtp_media_forward.specs.declared.forwarder.ReserveError.TheVariants.{Memory, NumberTooLarge};
 
 use std::alloc::{AllocError, Global};
@@ -198,6 +198,34 @@ impl Forwarder {
                 self.begin(piece.source, number, piece.shift)
             }
             None => Ok(()),
+        }
+    }
+
+    /// Leaves a source's packet out that carries nothing to send on, such as only padding (RFC 3550 5.1). If it would
+    /// get the next number, that number stays free for the source's next packet, and true is returned. Otherwise nothing
+    /// changes: call this again after the packets before it were sent on. Between two frames.
+    ///
+    /// # Errors
+    /// `AllocError`, and nothing has changed.
+    pub fn pass_empty(&mut self, source: u64, number: u64) -> Result<bool, AllocError>
+        ensures is_next { IfOk result (λ is. is ≡ is_next_of self.old source number) }
+        ensures after { OnOk result (self.new ≡ passed_empty self.old source number) }
+        ensures unchanged { OnErr result (self.new ≡ self.old) }
+    {
+        match self.pieces.last() {
+            Some(piece) => {
+                let piece = *piece;
+                if piece.has(END_OF_NUMBERS, source, number)
+                    && number < END_OF_NUMBERS
+                    && piece.out + (number - piece.first) == self.next
+                {
+                    self.begin(piece.source, number + 1, piece.shift)?;
+                    Ok(true)
+                } else {
+                    Ok(false)
+                }
+            }
+            None => Ok(false),
         }
     }
 

@@ -10,20 +10,24 @@ ghost use Rattle.rtp_media_schedules.specs.Orders.{IsSane, IsTame, first_size};
 ghost use Rattle.rtp_media_schedules.specs.SentSamples.{timed_unit};
 ghost use Rattle.rtp_media_schedules.specs.Samples.{canonical_units, datagrams, frame_sizes, whole_unit};
 ghost use Rattle.rtp_media_schedules.specs.Sending.{numbered};
-ghost use Rattle.rtp_media_schedules.specs.Turns.{Ask, Turn, event_of};
-ghost use Rattle.rtp_media_forward.specs.Forwarding.{Forwarding, ended, kept, shift_to, skipped, switched};
+ghost use Rattle.rtp_media_schedules.specs.Bare.{AreAside, bare_answer};
+ghost use Rattle.rtp_media_schedules.specs.Turns.{Ask, Sender, Turn, event_of};
+ghost use Rattle.rtp_media_forward.specs.Forwarding.{Forwarding, ended, kept, passed_empty, shift_to, skipped};
+ghost use Rattle.rtp_media_forward.specs.Forwarding.{switched};
 ghost use Rattle.rtp_media_forward.specs.Relayed.{AreFrom, AreRead, Part, count_in, count_of, pieces_from, relayed};
 ghost use Rattle.rtp_media_forward.specs.Relaying.{AreBetween, AreWithin, Packet, after_all, datagrams_at};
-ghost use Rattle.rtp_media_forward.specs.Relaying.{numbers_of, place_of, sent_on};
+ghost use Rattle.rtp_media_forward.specs.Relaying.{bare_senders, bare_sent, no_values, numbers_of, place_of};
+ghost use Rattle.rtp_media_forward.specs.Relaying.{sent_on};
 ghost use Rattle.rtp_media_forward.specs.declared.forwarder.Placed.{Placed};
 
 /// Packets that are sent on are datagrams of one stream, which sends the parts' samples with other times and values,
 /// whatever parts come later. Those that come are sent on as that stream's, each under its own number there, in
-/// whatever order they come and however often, late ones of earlier parts too (`sends`, `between`); no two datagrams
-/// get one number (`apart`). Once the last datagram of the last part was sent on, or the forwarder was told where it
-/// ends, the next number is the one after it (`next`, `ends`), and the
-/// forwarder goes over to a next part, of another source (`switches`) or of the same one (`skips`). Of too many pieces
-/// the oldest is forgotten (`keeps`).
+/// whatever order they come and however often, late ones of earlier parts too (`sends`, `between`); values aside even
+/// if each datagram of a sample has its own values of header extensions (`aside`). No two datagrams get one number
+/// (`apart`). When the last datagram of the last part was sent on (`next`), or the forwarder knows where
+/// the part ends (`ends`), the next number is the one after it, and the next part begins there: of another source
+/// (`switches`), of the same one (`skips`), or of the same one after a packet that carries nothing (`passes`). Of too
+/// many pieces the oldest is forgotten (`keeps`).
 pub fn forwarding_laws()
     ensures sends { (values : ExtensionValues → ExtensionValues) (senders : ℕ → ℕ → Content) (first : ℕ)
         (before parts later : List Part) (f : Forwarding) (came : List Packet) →
@@ -31,6 +35,13 @@ pub fn forwarding_laws()
         → AreFrom senders parts → AreWithin parts came →
         sent_on values senders f came
         ≡ datagrams_at (numbered first (datagrams (relayed values (before ++ parts ++ later))))
+        (numbers_of senders f came) }
+    ensures aside { (values : ExtensionValues → ExtensionValues) (senders : ℕ → ℕ → Content) (first : ℕ)
+        (before parts later : List Part) (f : Forwarding) (came : List Packet) →
+        f.pieces ≡ pieces_from (first + count_of before) parts → first + count_of before + count_of parts ≤ 2 ^ 62
+        → AreFrom (bare_senders senders) parts → AreWithin parts came →
+        map bare_sent (sent_on values senders f came)
+        ≡ datagrams_at (numbered first (datagrams (relayed no_values (before ++ parts ++ later))))
         (numbers_of senders f came) }
     ensures between { (senders : ℕ → ℕ → Content) (out : ℕ) (parts : List Part) (f : Forwarding)
         (came : List Packet) →
@@ -61,14 +72,21 @@ pub fn forwarding_laws()
         f.pieces ≡ pieces_from out (parts ++ p ∷ []) → f.next ≡ out + count_of (parts ++ p ∷ []) → q.first ≡ number
         → q.source ≡ p.source → q.shift ≡ p.shift →
         (skipped f number).pieces ≡ kept (pieces_from out (parts ++ p ∷ q ∷ [])) }
+    ensures passes { (out number : ℕ) (parts : List Part) (p q : Part) (f : Forwarding) →
+        f.pieces ≡ pieces_from out (parts ++ p ∷ []) → f.next ≡ out + count_of (parts ++ p ∷ [])
+        → out + count_of (parts ++ p ∷ []) < 2 ^ 62 → number ≡ p.first + count_in p → number < 2 ^ 62
+        → q.first ≡ number + 1 → q.source ≡ p.source → q.shift ≡ p.shift →
+        ((passed_empty f p.source number).pieces ≡ kept (pieces_from out (parts ++ p ∷ q ∷ [])))
+        × ((passed_empty f p.source number).next ≡ f.next) }
     ensures keeps { (out : ℕ) (p : Part) (parts : List Part) →
         (kept (pieces_from out (p ∷ parts)) ≡ pieces_from out (p ∷ parts))
         ⊎ (kept (pieces_from out (p ∷ parts)) ≡ pieces_from (out + count_in p) parts) }
 {}
 
-/// A receiver of what is sent on: under every sane schedule it answers a legal selection of the parts' units, and under
-/// a tame one exactly these, with the times and values under which they are sent on. No frame is put together between
-/// the sources and it, and each source may be of its own encoder.
+/// A receiver of what is sent on: under every sane schedule it answers a legal selection of the parts' units (`legal`),
+/// and under a tame one exactly these (`exact`), with the times and values under which they are sent on. The same holds
+/// values aside if each datagram has its own values of header extensions (`legal_aside`, `exact_aside`). No frame is put
+/// together between the sources and it, and each source may be of its own encoder.
 pub fn relayed_laws()
     ensures legal { (format : Format) (holding : Holding) (first : ℕ) (values : ExtensionValues → ExtensionValues)
         (parts : List Part) (turns : List Turn) →
@@ -85,5 +103,23 @@ pub fn relayed_laws()
         IsTame first (count_of parts) holding (first_size sizes) [] first sizes (turns ++ Ask ∷ []) →
         EndsSilent (heard format (fresh holding) events) →
         map timed_unit (handed_out (heard format (fresh holding) events))
+        ≡ map (λ c. Ok (whole_unit c)) (canonical_units first samples) }
+    ensures legal_aside { (format : Format) (holding : Holding) (first : ℕ) (parts : List Part) (sender : Sender)
+        (turns : List Turn) →
+        let samples = relayed no_values parts in
+        AreAside first (count_of parts) sender (numbered first (datagrams samples)) → AreRead format parts
+        → first + count_of parts ≤ 2 ^ 62 → IsSane first (count_of parts) [] turns →
+        IsLegal (canonical_units first samples)
+        (map bare_answer (heard format (fresh holding) (map (event_of sender) turns))) }
+    ensures exact_aside { (format : Format) (holding : Holding) (first : ℕ) (parts : List Part) (sender : Sender)
+        (turns : List Turn) →
+        let samples = relayed no_values parts in
+        let answers = heard format (fresh holding) (map (event_of sender) (turns ++ Ask ∷ [])) in
+        let sizes = frame_sizes format samples in
+        AreAside first (count_of parts) sender (numbered first (datagrams samples)) → AreRead format parts
+        → first + count_of parts ≤ 2 ^ 62
+        → IsTame first (count_of parts) holding (first_size sizes) [] first sizes (turns ++ Ask ∷ [])
+        → EndsSilent answers →
+        map timed_unit (handed_out (map bare_answer answers))
         ≡ map (λ c. Ok (whole_unit c)) (canonical_units first samples) }
 {}

@@ -1,24 +1,30 @@
 //! What holds of whole runs of a forwarder.
 
-ghost use Rattle.std.specs.Prelude.{◌≡◌, ℕ, ◌+◌, List, []};
+ghost use Rattle.std.specs.Prelude.{◌≡◌, ℕ, ◌+◌, List, [], map};
 ghost use Rattle.rtp_wire.specs.declared.values.ExtensionValues.{ExtensionValues};
 ghost use Rattle.rtp_media_schedules.specs.Hearing.{Content};
 ghost use Rattle.rtp_media_schedules.specs.Samples.{datagrams};
 ghost use Rattle.rtp_media_schedules.specs.Sending.{numbered};
 ghost use Rattle.rtp_media_forward.specs.Forwarding.{nothing_from};
 ghost use Rattle.rtp_media_forward.specs.Relayed.{AreFrom, Part, count_of, relayed};
-ghost use Rattle.rtp_media_forward.specs.Relaying.{AreBetween, datagrams_at};
+ghost use Rattle.rtp_media_forward.specs.Relaying.{AreBetween, bare_senders, bare_sent, datagrams_at, no_values};
 ghost use Rattle.rtp_media_forward.specs.Steps.{IsRun, Step, numbers_in, sent_in};
 
 /// A whole run of a forwarder, of packets that come in any order and of its calls between them: what is sent on are
 /// datagrams of one stream, which sends the samples of all parts one part after the other (`sends`), at numbers of
-/// theirs (`between`).
+/// theirs (`between`); values aside even if each datagram has its own values of header extensions (`aside`).
 pub fn steps_law()
     ensures sends { (values : ExtensionValues → ExtensionValues) (senders : ℕ → ℕ → Content) (first : ℕ)
         (parts : List Part) (steps : List Step) →
         AreFrom senders parts → IsRun senders first [] (nothing_from first) parts steps →
         sent_in values senders (nothing_from first) steps
         ≡ datagrams_at (numbered first (datagrams (relayed values parts)))
+        (numbers_in senders (nothing_from first) steps) }
+    ensures aside { (values : ExtensionValues → ExtensionValues) (senders : ℕ → ℕ → Content) (first : ℕ)
+        (parts : List Part) (steps : List Step) →
+        AreFrom (bare_senders senders) parts → IsRun senders first [] (nothing_from first) parts steps →
+        map bare_sent (sent_in values senders (nothing_from first) steps)
+        ≡ datagrams_at (numbered first (datagrams (relayed no_values parts)))
         (numbers_in senders (nothing_from first) steps) }
     ensures between { (senders : ℕ → ℕ → Content) (first : ℕ) (parts : List Part) (steps : List Step) →
         AreFrom senders parts → IsRun senders first [] (nothing_from first) parts steps →

@@ -1,6 +1,11 @@
-use Rattle.std.proofs.Common.{refl}
+use Rattle.std.proofs.Common.{ℕ, refl, sym, ◌∙◌, ap, List, ◌++◌}
+use Rattle.rtp_media_schedules.specs.Samples.{datagrams}
+use Rattle.rtp_media_schedules.specs.Sending.{numbered}
 use Rattle.rtp_media_forward.specs.Forwarding.{shift_to}
-use Rattle.rtp_media_forward.proofs.Relaying.{apart, between, ends, keeps, next-is, one-more, sends, skips, stays}
+use Rattle.rtp_media_forward.specs.Relayed.{relayed}
+use Rattle.rtp_media_forward.specs.Relaying.{bare_senders, datagrams_at, no_values}
+use Rattle.rtp_media_forward.proofs.ValuesAside.{numbers-aside, sent-aside}
+use Rattle.rtp_media_forward.proofs.Relaying.{apart, between, ends, keeps, next-is, one-more, passes, sends, skips, stays}
 use Rattle.rtp_media_forward.proofs.laws.forwarding_laws.Goals as goal
 
 pub returns-clause-sends : goal.returns-clause-sends
@@ -34,3 +39,14 @@ returns-clause-keeps c = keeps
 
 pub returns-clause-ends : goal.returns-clause-ends
 returns-clause-ends c = ends
+
+pub returns-clause-passes : goal.returns-clause-passes
+returns-clause-passes c = λ out number parts p q f is next fits at small from by timed.
+    passes out number parts p q f is next fits at small from by timed
+
+pub returns-clause-aside : goal.returns-clause-aside
+returns-clause-aside c = λ values senders first before parts later f came is fits from within.
+    sent-aside values senders came f
+    ∙ sends no_values (bare_senders senders) first before parts later came f is from within
+    ∙ ap (λ (ns : List ℕ). datagrams_at
+    (numbered first (datagrams (relayed no_values (before ++ parts ++ later)))) ns) (numbers-aside values senders came f)
