@@ -1,5 +1,9 @@
 pub mod Links
 pub mod Relayed
 pub mod Relaying
+pub mod Apart
+pub mod NextNumbers
+pub mod MorePieces
+pub mod Newest
 pub mod WholeRuns
 pub mod ValuesAside

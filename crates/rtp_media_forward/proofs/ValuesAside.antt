@@ -1,5 +1,5 @@
 -- What is sent on, header extension values aside.
-use Rattle.std.proofs.Common.{◌≡◌, ℕ, refl, sym, ap, subst, inl, inr, List, [], ◌∷◌, ◌++◌, map}
+use Rattle.std.proofs.Common.{◌≡◌, ℕ, refl, ap, subst, inl, inr, List, [], ◌∷◌, ◌++◌, map}
 use Rattle.std.specs.Prelude.{Option, Some, None}
 use Rattle.rtp_wire.specs.Values.{absent}
 use Rattle.rtp_wire.specs.declared.values.ExtensionValues.{ExtensionValues}
@@ -27,14 +27,14 @@ module _ (values : ExtensionValues → ExtensionValues) (senders : ℕ → ℕ �
   sent-aside [] f = refl
   sent-aside (p ∷ ps) f =
       one-aside values (senders p.source p.number) (place_of senders f p) _ _
-      (sent-aside ps (after_packet f (place_of senders f p)))
+      (sent-aside ps (after_packet f (place_of senders f p) p.ends))
 
   pub numbers-aside : (came : List Packet) (f : Forwarding)
       → numbers_of (bare_senders senders) f came ≡ numbers_of senders f came
   numbers-aside [] f = refl
   numbers-aside (p ∷ ps) f =
       ap (λ (ns : List ℕ). number_of (place_of senders f p) ++ ns)
-      (numbers-aside ps (after_packet f (place_of senders f p)))
+      (numbers-aside ps (after_packet f (place_of senders f p) p.ends))
 
   -- a whole run
   pub run-sent-aside : (xs : List Step) (f : Forwarding)

@@ -1,17 +1,18 @@
 -- What is sent on of sources' datagrams that come.
-use Rattle.std.specs.Prelude.{ℕ, ◌<◌, ◌≤◌, List, [], ◌∷◌, ◌++◌, map, Option, Some, None}
+use Rattle.std.specs.Prelude.{Bool, ℕ, ◌≡◌, ◌<◌, ◌≤◌, List, [], ◌∷◌, ◌++◌, map, Option, Some, None}
 use Rattle.rtp_wire.specs.declared.values.ExtensionValues.{ExtensionValues}
 use Rattle.rtp_wire.specs.Values.{absent}
 use Rattle.rtp_media_schedules.specs.Bare.{bare}
 use Rattle.rtp_media_schedules.specs.Hearing.{Content}
 use Rattle.rtp_media_forward.specs.Forwarding.{Forwarding, after_packet, placed}
-use Rattle.rtp_media_forward.specs.Relayed.{IsWithin, Part}
+use Rattle.rtp_media_forward.specs.Relayed.{IsOf, IsWithin, Part, content_at}
 use Rattle.rtp_media_forward.specs.declared.forwarder.Placed.{Placed}
 
--- A source's datagram of a number.
+-- A source's datagram of a number, and whether it is sent on as the end of its frame.
 pub record Packet : Type 0 where
   pub source : ℕ
   pub number : ℕ
+  pub ends : Bool
 
 -- A datagram as it is sent on: its number, and what it brings.
 pub record Sent : Type 0 where
@@ -35,7 +36,7 @@ sent_by values (Some at) c = record { number = at.number; content = content_with
 abbrev pub sent_on : (ExtensionValues → ExtensionValues) → (ℕ → ℕ → Content) → Forwarding → List Packet → List Sent
 sent_on values senders f [] = []
 sent_on values senders f (p ∷ ps) = sent_by values (place_of senders f p) (senders p.source p.number)
-    ++ sent_on values senders (after_packet f (place_of senders f p)) ps
+    ++ sent_on values senders (after_packet f (place_of senders f p) p.ends) ps
 
 abbrev pub number_of : Option Placed → List ℕ
 number_of None = []
@@ -44,11 +45,11 @@ number_of (Some at) = at.number ∷ []
 abbrev pub numbers_of : (ℕ → ℕ → Content) → Forwarding → List Packet → List ℕ
 numbers_of senders f [] = []
 numbers_of senders f (p ∷ ps) = number_of (place_of senders f p)
-    ++ numbers_of senders (after_packet f (place_of senders f p)) ps
+    ++ numbers_of senders (after_packet f (place_of senders f p) p.ends) ps
 
 abbrev pub after_all : (ℕ → ℕ → Content) → Forwarding → List Packet → Forwarding
 after_all senders f [] = f
-after_all senders f (p ∷ ps) = after_all senders (after_packet f (place_of senders f p)) ps
+after_all senders f (p ∷ ps) = after_all senders (after_packet f (place_of senders f p) p.ends) ps
 
 abbrev pub AreWithin : List Part → List Packet → Type 0
 AreWithin parts [] = Unit {0}
@@ -72,3 +73,16 @@ bare_sent s = record { number = s.number; content = bare s.content }
 
 abbrev pub no_values : ExtensionValues → ExtensionValues
 no_values v = absent
+
+-- What a source's datagram of a number brings is what each part that it could be one of has there.
+abbrev pub IsAsIn : (ℕ → ℕ → Content) → List Part → (source number : ℕ) → Type 0
+IsAsIn senders [] source number = Unit {0}
+IsAsIn senders (p ∷ ps) source number =
+    (p.source ≡ source → IsOf p number → content_at p number ≡ senders source number)
+    × IsAsIn senders ps source number
+
+-- The datagrams that come bring what the parts have there. Of those that don't come nothing is asked: a part's last
+-- frame may lack them.
+abbrev pub AreAsIn : (ℕ → ℕ → Content) → List Part → List Packet → Type 0
+AreAsIn senders parts [] = Unit {0}
+AreAsIn senders parts (p ∷ ps) = IsAsIn senders parts p.source p.number × AreAsIn senders parts ps

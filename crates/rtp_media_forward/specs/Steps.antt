@@ -4,9 +4,9 @@ use Rattle.std.specs.Prelude.{true, false}
 use Rattle.rtp_wire.specs.declared.values.ExtensionValues.{ExtensionValues}
 use Rattle.rtp_media_schedules.specs.Hearing.{Content}
 use Rattle.rtp_media_forward.specs.Forwarding.{Forwarding, after_packet, end_of_numbers, ended, reserved, shift_to}
-use Rattle.rtp_media_forward.specs.Forwarding.{is_next_of, passed_empty, skipped, switched}
+use Rattle.rtp_media_forward.specs.Forwarding.{is_next_of, passed_empty, skipped, start_of, switched}
 use Rattle.rtp_media_forward.specs.Relayed.{IsWithin, Part, count_in, count_of}
-use Rattle.rtp_media_forward.specs.Relaying.{Packet, Sent, number_of, place_of, sent_by}
+use Rattle.rtp_media_forward.specs.Relaying.{IsAsIn, Packet, Sent, number_of, place_of, sent_by}
 use Rattle.rtp_media_forward.specs.declared.forwarder.Piece.{Piece}
 
 -- A packet comes; or one of the forwarder's calls is made.
@@ -19,7 +19,7 @@ pub data Step : Type 0 where
   Reserve : (count : ℕ) → Step
 
 abbrev pub after_step : (ℕ → ℕ → Content) → Forwarding → Step → Forwarding
-after_step senders f (Come p) = after_packet f (place_of senders f p)
+after_step senders f (Come p) = after_packet f (place_of senders f p) p.ends
 after_step senders f (Switch source number time at) = switched f source number time at
 after_step senders f (SkipTo number) = skipped f number
 after_step senders f (Empty source number) = passed_empty f source number
@@ -91,6 +91,15 @@ BeginsAt f (Empty source number) q =
 BeginsAt f (EndAt number) q = ⊥
 BeginsAt f (Reserve count) q = IsKeptBy (last_piece f) q × (count_in q ≡ count)
 
+-- The number with which it begins: after a packet that carries nothing no number is left free.
+abbrev pub begin_of : Forwarding → Step → ℕ
+begin_of f (Come p) = start_of f
+begin_of f (Switch source number time at) = start_of f
+begin_of f (SkipTo number) = start_of f
+begin_of f (Empty source number) = f.next
+begin_of f (EndAt number) = start_of f
+begin_of f (Reserve count) = start_of f
+
 -- A run that sends parts on, of which the first ones have begun: each later one begins when all numbers of those before
 -- it were given, or the forwarder knows where they end.
 abbrev pub IsRun : (ℕ → ℕ → Content) → ℕ → List Part → Forwarding → List Part → List Step → Type 0
@@ -98,5 +107,18 @@ IsRun senders first begun f later [] = Unit {0}
 IsRun senders first begun f [] (x ∷ xs) = IsSound begun f x × IsRun senders first begun (after_step senders f x) [] xs
 IsRun senders first begun f (q ∷ later) (x ∷ xs) =
     (IsSound begun f x × IsRun senders first begun (after_step senders f x) (q ∷ later) xs)
-    ⊎ ((f.next ≡ first + count_of begun) × BeginsAt f x q
+    ⊎ ((begin_of f x ≡ first + count_of begun) × BeginsAt f x q
     × IsRun senders first (begun ++ q ∷ []) (after_step senders f x) later xs)
+
+-- A datagram that comes brings what these parts have there; in a run each does.
+abbrev pub IsAsInStep : (ℕ → ℕ → Content) → List Part → Step → Type 0
+IsAsInStep senders parts (Come p) = IsAsIn senders parts p.source p.number
+IsAsInStep senders parts (Switch source number time at) = Unit {0}
+IsAsInStep senders parts (SkipTo number) = Unit {0}
+IsAsInStep senders parts (Empty source number) = Unit {0}
+IsAsInStep senders parts (EndAt number) = Unit {0}
+IsAsInStep senders parts (Reserve count) = Unit {0}
+
+abbrev pub AreAsInRun : (ℕ → ℕ → Content) → List Part → List Step → Type 0
+AreAsInRun senders parts [] = Unit {0}
+AreAsInRun senders parts (x ∷ xs) = IsAsInStep senders parts x × AreAsInRun senders parts xs

@@ -1,9 +1,10 @@
 //! Numbers and timestamps of packets that are sent on.
 
-ghost use Rattle.std.specs.Prelude.{◌≡◌, ◌+◌, ◌<◌, ◌≤◌, ◌^◌, IfErr, IfOk, IfSome, OnErr, OnOk};
+ghost use Rattle.std.specs.Prelude.{◌≡◌, ◌+◌, ◌<◌, ◌≤◌, ◌^◌, ◌++◌, [], ◌∷◌, IfErr, IfOk, IfSome, OnErr, OnOk};
 ghost use Rattle.rtp_media_forward.specs.Forwarding.{after_packet, end_before, ended, is_in, nothing_from};
 ghost use Rattle.rtp_media_forward.specs.Forwarding.{placed, placed_in, reserved, shift_to, skipped, switched};
-ghost use Rattle.rtp_media_forward.specs.Forwarding.{is_next_of, passed_empty, with_piece};
+ghost use Rattle.rtp_media_forward.specs.Forwarding.{is_next_of, kept, passed_empty, start_of, with_piece};
+ghost use Rattle.rtp_media_forward.specs.Forwarding.{with_pieces};
 ghost use Rattle.rtp_media_forward.specs.declared.forwarder.ReserveError.TheVariants.{Memory, NumberTooLarge};
 
 use std::alloc::{AllocError, Global};
@@ -58,12 +59,15 @@ impl From<AllocError> for ReserveError {
 }
 
 /// Numbers and times the packets of one source after another as those of one stream: the packets of a source keep their
-/// distances, and one source's begin right above the greatest number that was given before. Packets that come late are
-/// sent on where they belong, those of an earlier source too, as long as the last 64 pieces.
+/// distances, and one source's begin above the greatest number that was given before: right above it if that packet
+/// ends its frame, and otherwise one number is left free, so that no receiver joins packets of two sources to one
+/// frame. Packets that come late are sent on where they belong, those of an earlier source too; at least the last 64
+/// pieces are kept. If several pieces have a packet, the newest one counts.
 #[derive(Drop)]
 pub struct Forwarder {
     pieces: Vec<Piece>,
     next: u64,
+    whole: bool,
 }
 
 impl Model for Forwarder {
@@ -71,7 +75,7 @@ impl Model for Forwarder {
 
     ghost Value = { Forwarding };
 
-    ghost view = { λ f. record { pieces = f.pieces.items; next = f.next } };
+    ghost view = { λ f. record { pieces = f.pieces.items; next = f.next; whole = f.whole } };
 }
 
 /// What is added to a timestamp so that it becomes another.
@@ -107,7 +111,8 @@ fn placed_in(pieces: &[Piece], source: u64, number: u64, time: u32) -> Option<Pl
     ensures placed { result ≡ placed_in pieces.now source number time }
     ensures below { IfSome result (λ p. p.number + 1 < 2 ^ 64) }
 {
-    for i in 0..pieces.len() {
+    for newer in 0..pieces.len() {
+        let i = pieces.len() - 1 - newer;
         let piece = pieces[i];
         if piece.has(end_before(&pieces[i + 1..]), source, number) {
             return Some(Placed {
@@ -127,10 +132,11 @@ impl Forwarder {
         Forwarder {
             pieces: Vec::new(alloc),
             next: first,
+            whole: true,
         }
     }
 
-    /// The first number above all those that were given.
+    /// The first number above all those that were given or left free.
     pub fn next(&self) -> u64
         ensures { result ≡ self.now.next }
     {
@@ -146,19 +152,24 @@ impl Forwarder {
         placed_in(self.pieces.as_slice(), source, number, time)
     }
 
-    /// The same, and the number is given: the next piece begins above it.
-    pub fn forward(&mut self, source: u64, number: u64, time: u32) -> Option<Placed>
+    /// The same, and the number is given: the next piece begins above it. `ends` says whether the packet is the last
+    /// one of its frame: for video [`is_partition_tail`](payload_core_base::Depacketizer::is_partition_tail) of its
+    /// marker and payload, for audio true.
+    pub fn forward(&mut self, source: u64, number: u64, time: u32, ends: bool) -> Option<Placed>
         ensures placed { result ≡ placed self.old source number time }
-        ensures after { self.new ≡ after_packet self.old (placed self.old source number time) }
+        ensures after { self.new ≡ after_packet self.old (placed self.old source number time) ends }
     {
         let placed = self.place(source, number, time)?;
+        if self.next <= placed.number {
+            self.whole = ends;
+        }
         self.next = self.next.max(placed.number + 1);
         Some(placed)
     }
 
     /// Goes over to a source, from its packet of this number and timestamp on, which gets the timestamp `at` and the
-    /// next number. Between two frames of the source before: a frame whose last packets were not sent on yet is lost to
-    /// a receiver.
+    /// next number; one number is left free before it if the last packet wasn't sent on as the end of its frame. The
+    /// frame before is then lost to a receiver, except if its last packet still comes.
     ///
     /// # Errors
     /// `AllocError`, and nothing has changed.
@@ -171,20 +182,26 @@ impl Forwarder {
 
     /// Says that what is sent on of the source that is sent on last ends before its packet of this number, if that is
     /// known, as from the first packet of its next frame: the next piece begins where that packet would be, and
-    /// packets before it may still come.
+    /// packets before it may still come. Nothing changes if a later packet was sent on.
     pub fn end_at(&mut self, number: u64)
-        ensures { self.new ≡ ended self.old number }
+        ensures after { self.new ≡ ended self.old number }
+        ensures onward { self.old.next ≤ self.new.next }
     {
         if let Some(piece) = self.pieces.last() {
             let piece = *piece;
             if piece.has(END_OF_NUMBERS, piece.source, number) {
-                self.next = self.next.max(piece.out + (number - piece.first));
+                let end = piece.out + (number - piece.first);
+                if self.next <= end {
+                    self.next = end;
+                    self.whole = true;
+                }
             }
         }
     }
 
-    /// Leaves out what the source that is sent on sends before the packet of this number, which gets the next number;
-    /// the timestamps stay those of the source's clock. Between two frames, for layers that are not sent on.
+    /// Leaves out what the source that is sent on sends before the packet of this number, which gets the next number,
+    /// after one that is left free as by `switch`; the timestamps stay those of the source's clock. Between two frames,
+    /// for layers that are not sent on.
     ///
     /// # Errors
     /// `AllocError`, and nothing has changed.
@@ -202,7 +219,7 @@ impl Forwarder {
     }
 
     /// Leaves a source's packet out that carries nothing to send on, such as only padding (RFC 3550 5.1). If it would
-    /// get the next number, that number stays free for the source's next packet, and true is returned. Otherwise nothing
+    /// get the next number, the source's packet after it gets that number, and true is returned. Otherwise nothing
     /// changes: call this again after the packets before it were sent on. Between two frames.
     ///
     /// # Errors
@@ -219,7 +236,12 @@ impl Forwarder {
                     && number < END_OF_NUMBERS
                     && piece.out + (number - piece.first) == self.next
                 {
-                    self.begin(piece.source, number + 1, piece.shift)?;
+                    self.add(Piece {
+                        source: piece.source,
+                        first: number + 1,
+                        out: self.next,
+                        shift: piece.shift,
+                    })?;
                     Ok(true)
                 } else {
                     Ok(false)
@@ -230,20 +252,20 @@ impl Forwarder {
     }
 
     /// Reserves the next `count` numbers for packets that no source sends, such as those of samples that are pushed in
-    /// between, and returns the first of them. What was sent on before ends there: go on by `switch` or `skip_to`. The
-    /// sources' own numbers are below 2^62.
+    /// between, and returns the first of them; one number is left free before it as by `switch`. What was sent on
+    /// before ends there: go on by `switch` or `skip_to`. The sources' own numbers are below 2^62.
     ///
     /// # Errors
     /// See [`ReserveError`]; nothing has changed then.
     pub fn reserve(&mut self, count: u64) -> Result<u64, ReserveError>
-        ensures first { IfOk result (λ first. first ≡ self.old.next) }
+        ensures first { IfOk result (λ first. first ≡ start_of self.old) }
         ensures after { OnOk result (self.new ≡ reserved self.old count) }
-        ensures fits { OnOk result (self.old.next + count ≤ 2 ^ 62) }
-        ensures refused { IfErr result (λ e. e ≡ NumberTooLarge → 2 ^ 62 < self.old.next + count) }
-        ensures memory { IfErr result (λ e. e ≡ Memory → self.old.next + count ≤ 2 ^ 62) }
+        ensures fits { OnOk result (start_of self.old + count ≤ 2 ^ 62) }
+        ensures refused { IfErr result (λ e. e ≡ NumberTooLarge → 2 ^ 62 < start_of self.old + count) }
+        ensures memory { IfErr result (λ e. e ≡ Memory → start_of self.old + count ≤ 2 ^ 62) }
         ensures unchanged { OnErr result (self.new ≡ self.old) }
     {
-        let first = self.next;
+        let first = self.start();
         if first > END_OF_NUMBERS || count > END_OF_NUMBERS - first {
             return Err(ReserveError::NumberTooLarge);
         }
@@ -256,17 +278,38 @@ impl Forwarder {
         Ok(first)
     }
 
-    /// Begins a piece.
+    /// Where the next piece begins.
+    fn start(&self) -> u64
+        ensures { result ≡ start_of self.now }
+    {
+        if self.whole || self.next >= END_OF_NUMBERS {
+            return self.next;
+        }
+        self.next + 1
+    }
+
+    /// Begins a piece after all numbers that were given.
     fn begin(&mut self, source: u64, first: u64, shift: u32) -> Result<(), AllocError>
         ensures after { OnOk result (self.new ≡ with_piece self.old source first shift) }
         ensures unchanged { OnErr result (self.new ≡ self.old) }
     {
-        let piece = Piece {
+        let out = self.start();
+        self.add(Piece {
             source,
             first,
-            out: self.next,
+            out,
             shift,
-        };
+        })?;
+        self.next = out;
+        self.whole = true;
+        Ok(())
+    }
+
+    /// One piece more.
+    fn add(&mut self, piece: Piece) -> Result<(), AllocError>
+        ensures after { OnOk result (self.new ≡ with_pieces self.old (kept (self.old.pieces ++ piece ∷ []))) }
+        ensures unchanged { OnErr result (self.new ≡ self.old) }
+    {
         self.pieces.push(piece)?;
         if self.pieces.len() > MOST_PIECES {
             self.pieces.remove(0);
