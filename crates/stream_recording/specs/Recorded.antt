@@ -82,4 +82,4 @@ abbrev pub IsPartRecorded : {D : Type 0} → Format → ℕ → (D → Fragment)
     → List Outcome → List Outcome → Type 0
 IsPartRecorded format first fragment old new p before after = ((new ≡ old) × (after ≡ before))
     ⊎ ((has_begun format (waiting_of first old) (pushed_in fragment old p) ≡ true)
-        × Appends format old.holding.hold_back IsShort (pushed_in fragment old p) (kept_in fragment new) before after)
+    × Appends format old.holding.hold_back IsShort (pushed_in fragment old p) (kept_in fragment new) before after)

@@ -1,4 +1,4 @@
-use Rattle.std.proofs.Common.{rules, ◌≡◌, ℕ, suc, zero, ◌+◌, ◌-◌, ◌<◌, refl, sym, ◌∙◌, ap, arith, true, List, [], ◌∷◌}
+use Rattle.std.proofs.Common.{rules, ◌≡◌, ℕ, suc, zero, ◌+◌, ◌-◌, ◌<◌, refl, sym, ◌∙◌, ap, arith, true}
 use Rattle.std.specs.Prelude.{if◌then◌else◌, Bool}
 use Rattle.std.specs.List.{range_with_len}
 use Rattle.rtp_wire.specs.Replay.{Window, accepts}
