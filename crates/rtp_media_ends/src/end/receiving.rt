@@ -7,6 +7,7 @@ ghost use Rattle.rtp_media_ends.specs.EndArrivals.{verdict_of, after_datagram};
 ghost use Rattle.payload_core_buffer.specs.Buffered.{is_done};
 ghost use Rattle.payload_core_buffer.specs.Sizes.{bytes_of};
 ghost use Rattle.rtp_media_streams.specs.Limits.{fragment_len, is_next, kept_within, passed_empty};
+ghost use Rattle.rtp_media_streams.specs.Rows.{format_of};
 ghost use Rattle.rtp_media_streams.specs.Missing.{missing};
 ghost use Rattle.rtp_media_streams.specs.Passing.{passed_to};
 ghost use Rattle.rtp_media_streams.specs.Receiving.{with_stream};
@@ -115,9 +116,22 @@ impl End {
         streams.keep_within(stream, bytes);
     }
 
+    /// Whether a frame of a receiving stream ends with a packet, by its marker bit and its payload without padding: what
+    /// [`Forwarder::forward`](rtp_media_forward::Forwarder::forward) is told.
+    ///
+    /// # Conditions
+    /// The number is that of a receiving stream: [`End::is_receiver`].
+    pub fn ends_frame(&self, stream: usize, marker: bool, payload: &[u8]) -> bool
+        requires { is_receiver_at self.now stream ≡ true }
+        ensures { result ≡ (format_of (receiver_at self.now stream).row).tail marker payload.now }
+    {
+        self.streams.ends_frame(stream, marker, payload)
+    }
+
     /// The missing numbers of a receiving stream, in increasing order: those after the last unit's, or, before any
-    /// unit, after the lowest packet that waits, that were not taken, below the greatest that was and within the replay
-    /// window. These, and no others, are worth asking for (generic NACK, RFC 4585 6.2.1); they are at most 1,023.
+    /// unit, after the lowest number that waits or was taken, that were not taken, below the greatest that was and within
+    /// the replay window. These, and no others, are worth asking for (generic NACK, RFC 4585 6.2.1); they are at most
+    /// 1,023.
     ///
     /// # Conditions
     /// The number is that of a receiving stream: [`End::is_receiver`].

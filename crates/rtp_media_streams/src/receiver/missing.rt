@@ -10,9 +10,11 @@ ghost use Rattle.rtp_media_streams.specs.Missing.{begin_of, in_reach, lowest_tak
 ghost use Rattle.rtp_wire.specs.Replay.{accepts};
 ghost use Rattle.rtp_media_streams.specs.Passing.{passed_to};
 ghost use Rattle.rtp_media_streams.specs.Receiving.{with_stream};
+ghost use Rattle.rtp_media_streams.specs.Rows.{format_of};
 
 use super::ReceivingStream;
 use crate::codecs::depacketizer_for;
+use payload_core_base::Depacketizer;
 use rtp_wire::{SeqNo, SeqNoWindow};
 use std::alloc::{AllocError, Global};
 
@@ -150,6 +152,15 @@ impl ReceivingStream {
     {
         let depacketizer = depacketizer_for(self.alloc, &self.row);
         self.buffer.set_depacketizer(depacketizer);
+    }
+
+    /// Whether a frame ends with a packet of this stream's, by its marker bit and its payload: what a forwarder is told.
+    pub fn ends_frame(&self, marker: bool, payload: &[u8]) -> bool
+        ensures { result ≡ (format_of self.now.row).tail marker payload.now }
+    {
+        self.buffer
+            .depacketizer()
+            .is_partition_tail(marker, payload)
     }
 
     /// The missing numbers, in increasing order: those after the last unit's, or, before any unit, after the lowest
