@@ -25,8 +25,8 @@ use Rattle.rtp_media_streams.specs.Receiving.{values_of_header, values_read}
 use Rattle.rtp_media_streams.specs.Types.{has_type, is_plain_key, is_repair_key, is_type}
 use Rattle.rtp_media_streams.specs.declared.types.PayloadTypes.{PayloadTypes}
 use Rattle.rtp_media_streams.proofs.Sent.{writable}
-use Rattle.rtp_media_forward.specs.Forwarding.{Forwarding, after_packet, end_before, is_in, number_in, placed_in}
-use Rattle.rtp_media_forward.specs.Forwarding.{shifted}
+use Rattle.rtp_media_forward.specs.Forwarding.{Forwarding, after_packet, end_before, is_in, newer_or, number_in}
+use Rattle.rtp_media_forward.specs.Forwarding.{placed_by, placed_in, shifted}
 use Rattle.rtp_media_forward.specs.Relaying.{Packet, Sent, datagrams_at, numbers_of, place_of, sent_by, sent_on}
 use Rattle.rtp_media_forward.specs.declared.forwarder.Piece.{Piece}
 use Rattle.rtp_media_forward.specs.declared.forwarder.Placed.{Placed}
@@ -96,18 +96,22 @@ packet-read s holding x o plain time vs some =
 -- timestamps have 32 bits
 placed-time : (ps : List Piece) (s x t : ℕ) (q : Placed) → placed_in ps s x t ≡ Some q → q.time < 2 ^ 32
 placed-time [] s x t q e = cc
-placed-time (p ∷ ps) s x t q e =
-    by (is_in p (end_before ps) s x) p.shift (number_in p x) (placed_in ps s x t) (placed-time ps s x t q) e where
-      some : (a : Placed) → Some a ≡ Some q → a ≡ q
-      some a h = cc
+placed-time (p ∷ ps) s x t q e = by (placed_in ps s x t) (placed-time ps s x t q) e where
+  some : (a : Placed) → Some a ≡ Some q → a ≡ q
+  some a h = cc
 
-      by : (b : Bool) (shift n : ℕ) (o : Option Placed) → (o ≡ Some q → q.time < 2 ^ 32)
-          → (if b then Some (record { number = n; time = shifted shift t }) else o) ≡ Some q → q.time < 2 ^ 32
-      by true shift n o behind e =
-          let small : shifted shift t < 2 ^ 32 = omega arith in
-          subst (λ (k : ℕ). k < 2 ^ 32)
-          (ap (λ (a : Placed). a.time) (some (record { number = n; time = shifted shift t }) e)) small
-      by false shift n o behind e = behind e
+  here : (b : Bool) (shift n : ℕ) → (if b then Some (record { number = n; time = shifted shift t }) else None) ≡ Some q
+      → q.time < 2 ^ 32
+  here true shift n e =
+      let small : shifted shift t < 2 ^ 32 = omega arith in
+      subst (λ (k : ℕ). k < 2 ^ 32)
+      (ap (λ (a : Placed). a.time) (some (record { number = n; time = shifted shift t }) e)) small
+  here false shift n e = absurd cc
+
+  by : (o : Option Placed) → (o ≡ Some q → q.time < 2 ^ 32)
+      → newer_or o (placed_by p (end_before ps) s x t) ≡ Some q → q.time < 2 ^ 32
+  by (Some r) newer e = newer e
+  by None newer e = here (is_in p (end_before ps) s x) p.shift (number_in p x) e
 
 abbrev heard_sent : Sent → Option Event
 heard_sent t = Some (Comes (t.number % 65536) t.content)
@@ -134,12 +138,12 @@ all-heard s holding own senders (p ∷ ps) f plain good =
     let c : Content = senders p.source p.number in
     let o : Option Placed = place_of senders f p in
     map-on (event_in (receiver_of holding s)) (datagrams_by s own o c)
-    (datagrams_on s own senders (after_packet f o) ps)
+    (datagrams_on s own senders (after_packet f o p.ends) ps)
     ∙ ap₂ (λ (xs ys : List (Option Event)). xs ++ ys)
     (one-heard s holding own o c plain (placed-time f.pieces p.source p.number c.time) good.0 good.1)
-    (all-heard s holding own senders ps (after_packet f o) plain good.2)
+    (all-heard s holding own senders ps (after_packet f o p.ends) plain good.2)
     ∙ sym (map-on heard_sent (sent_by (values_by s own) o c)
-    (sent_on (values_by s own) senders (after_packet f o) ps))
+    (sent_on (values_by s own) senders (after_packet f o p.ends) ps))
 
 at-heard : (sender : ℕ → Content) (ys : List ℕ)
     → map heard_sent (datagrams_at sender ys) ≡ map (λ y. Some (Comes (y % 65536) (sender y))) ys

@@ -72,9 +72,9 @@ on-sent s own senders [] f = refl
 on-sent s own senders (p ∷ ps) f =
     let o : Option Placed = place_of senders f p in
     ap₂ (λ (xs ys : List (List ℕ)). xs ++ ys) (by-sent s own o (senders p.source p.number))
-    (on-sent s own senders ps (after_packet f o))
+    (on-sent s own senders ps (after_packet f o p.ends))
     ∙ sym (map-on (λ (t : Sent). datagram_of s t.number (as_outgoing t.content))
-    (sent_by own o (senders p.source p.number)) (sent_on own senders (after_packet f o) ps))
+    (sent_by own o (senders p.source p.number)) (sent_on own senders (after_packet f o p.ends) ps))
 
 pub at-numbers : (s : Sending) (first : ℕ) (cs : List Content) (from end : ℕ) (ys : List ℕ) → first ≤ from
     → end ≤ first + length cs → AreBetween from end ys

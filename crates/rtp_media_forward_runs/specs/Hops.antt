@@ -56,7 +56,7 @@ abbrev pub datagrams_on : Sending → (ExtensionValues → ExtensionValues) → 
 datagrams_on s own senders f [] = []
 datagrams_on s own senders f (p ∷ ps) =
     datagrams_by s own (place_of senders f p) (senders p.source p.number)
-    ++ datagrams_on s own senders (after_packet f (place_of senders f p)) ps
+    ++ datagrams_on s own senders (after_packet f (place_of senders f p) p.ends) ps
 
 -- Each packet brings a byte, and its values can be written.
 abbrev pub AreSendable : (ExtensionValues → ExtensionValues) → (ℕ → ℕ → Content) → List Packet → Type 0

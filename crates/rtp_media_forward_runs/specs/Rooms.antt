@@ -1,5 +1,5 @@
 -- One sample of each of two publishers, in one packet each, sent on by a forwarder to a subscriber.
-use Rattle.std.specs.Prelude.{ℕ, ◌≡◌, ◌+◌, ◌<◌, ◌≤◌, ◌^◌, ◌==◌, Bool, if◌then◌else◌, List, [], ◌∷◌, ◌++◌, length, None}
+use Rattle.std.specs.Prelude.{ℕ, ◌≡◌, ◌+◌, ◌<◌, ◌≤◌, ◌^◌, ◌==◌, Bool, true, if◌then◌else◌, List, [], ◌∷◌, ◌++◌, length, None}
 use Rattle.std.specs.Prelude.{Some}
 use Rattle.payload_core_base.specs.Outgoing.{Outgoing, outgoing}
 use Rattle.rtp_wire.specs.declared.values.ExtensionValues.{ExtensionValues}
@@ -74,9 +74,9 @@ senders_in r source number = content_by_number (if source == 1 then one_of r els
 abbrev pub steps_in : Room → List Step
 steps_in r =
     Switch 1 0 (time_over r.one r.one_sample) (time_over r.one r.one_sample)
-    ∷ Come (record { source = 1; number = 0 })
+    ∷ Come (record { source = 1; number = 0; ends = true })
     ∷ Switch 2 0 (time_over r.other r.other_sample) r.at
-    ∷ Come (record { source = 2; number = 0 })
+    ∷ Come (record { source = 2; number = 0; ends = true })
     ∷ []
 
 abbrev pub stream_in : Room → Sending
