@@ -1,5 +1,6 @@
 pub mod PatchLaw
 pub mod PatchWrites
+pub mod ShiftLaw
 pub mod Vp8Law
 pub mod KeyframeLaw
 pub mod LayoutLaw

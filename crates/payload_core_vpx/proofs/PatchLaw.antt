@@ -255,13 +255,13 @@ with_frame_some d [] lt = absurd (omega arith)
 with_frame_some d (b ∷ bs) lt = refl
 
 -- a descriptor's own ids are not refused
-none_of : (a b c : Option Vp8PatchError) → a ≡ None → b ≡ None → c ≡ None → first_of_two a (first_of_two b c) ≡ None
+pub none_of : (a b c : Option Vp8PatchError) → a ≡ None → b ≡ None → c ≡ None → first_of_two a (first_of_two b c) ≡ None
 none_of None None None e f g = refl
 none_of (Some x) b c e f g = absurd (cc)
 none_of None (Some x) c e f g = absurd (cc)
 none_of None None (Some x) e f g = absurd (cc)
 
-not_above : (n max : ℕ) (e : Vp8PatchError) → n ≤ max → (if ltb max n then Some e else None) ≡ None
+pub not_above : (n max : ℕ) (e : Vp8PatchError) → n ≤ max → (if ltb max n then Some e else None) ≡ None
 not_above n max e le = let low : ltb max n ≡ false = grind (arith, nat_tests) in
     ap (λ t. if t then Some e else None) low
 
@@ -524,7 +524,7 @@ holds false p x byte room None None (Some v) is = let no : false ≡ true =
     (fits (shape_with false (slice_index p 1) (has_bit 128 (slice_index p 2))) None None (Some v) is).has_key v refl
     in absurd (cc)
 
-frame_behind : (d e : Vp8Descriptor) (rest : List ℕ) → with_frame d rest ≡ Ok e → (0 < length rest) × (e ≡ d)
+pub frame_behind : (d e : Vp8Descriptor) (rest : List ℕ) → with_frame d rest ≡ Ok e → (0 < length rest) × (e ≡ d)
 frame_behind d e [] is = absurd (cc)
 frame_behind d e (b ∷ bs) is = (omega arith, cc)
 

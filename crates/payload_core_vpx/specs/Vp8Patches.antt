@@ -42,6 +42,10 @@ abbrev pub refusal_of_build : Vp8PatchBuilder → Option Vp8PatchError
 refusal_of_build b = first_of_two (picture_id_refusal b.shape b.picture_id)
     (first_of_two (tl0_pic_idx_refusal b.shape b.tl0_pic_idx) (key_idx_refusal b.shape b.key_idx))
 
+abbrev pub patch_with : Shape → (picture_id tl0_pic_idx key_idx : Option ℕ) → Vp8Patch
+patch_with s picture_id tl0_pic_idx key_idx =
+    record { shape = s; picture_id = picture_id; tl0_pic_idx = tl0_pic_idx; key_idx = key_idx }
+
 abbrev pub patch_of : Vp8PatchBuilder → Vp8Patch
 patch_of b = record { shape = b.shape; picture_id = b.picture_id; tl0_pic_idx = b.tl0_pic_idx; key_idx = b.key_idx }
 

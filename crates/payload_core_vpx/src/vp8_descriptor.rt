@@ -5,7 +5,8 @@ ghost use Rattle.payload_core_vpx.specs.Vp8Descriptor.{keyframe_in, layout_size,
 ghost use Rattle.payload_core_vpx.specs.Vp8Descriptor.{picture_id_size, shape_of, starts_keyframe, tl0_pic_idx_in};
 ghost use Rattle.payload_core_vpx.specs.Vp8Descriptor.{tl0_place};
 ghost use Rattle.payload_core_vpx.specs.Vp8Patches.{builder_of};
-ghost use Rattle.std.specs.Prelude.{◌≡◌, ◌≤◌, drop};
+ghost use Rattle.payload_core_vpx.specs.Vp8Shifts.{picture_ids};
+ghost use Rattle.std.specs.Prelude.{◌≡◌, ◌<◌, ◌≤◌, ◌^◌, drop};
 
 use crate::vp8_patch::Vp8PatchBuilder;
 use payload_core_base::{behind, byte_at, has_bit};
@@ -192,6 +193,15 @@ impl Vp8Descriptor {
         self.picture_id
     }
 
+    /// How many picture ids the field of the descriptor's picture id holds.
+    pub(crate) fn picture_ids(&self) -> u32
+        ensures value { result ≡ picture_ids self.now }
+        ensures some { 0 < result }
+        ensures few { result ≤ 2 ^ 15 }
+    {
+        if self.shape.is_long { 32_768 } else { 128 }
+    }
+
     /// The index of the temporal base layer frame (TL0PICIDX), if the descriptor has one.
     pub fn tl0_pic_idx(&self) -> Option<u8>
         ensures { result ≡ self.now.tl0_pic_idx }
@@ -220,6 +230,13 @@ impl Vp8Descriptor {
         ensures { result.now ≡ drop (layout_size self.now.shape) payload.now }
     {
         behind(payload, self.shape.layout_size())
+    }
+
+    /// Which fields the descriptor has.
+    pub(crate) fn shape(&self) -> Shape
+        ensures { result ≡ self.now.shape }
+    {
+        self.shape
     }
 
     /// A builder of patches of the ids, which has none yet.

@@ -1,14 +1,15 @@
 //! Patches of the ids in VP8 payload descriptors (RFC 7741 4.2).
 
 ghost use Rattle.payload_core_vpx.specs.Vp8Descriptor.{key_place, tl0_place};
-ghost use Rattle.payload_core_vpx.specs.Vp8Patches.{Reaches, builder_of, key_idx_refusal, patch_of, patched};
+ghost use Rattle.payload_core_vpx.specs.Vp8Patches.{Reaches, builder_of, key_idx_refusal, patch_of, patch_with};
+ghost use Rattle.payload_core_vpx.specs.Vp8Patches.{patched};
 ghost use Rattle.payload_core_vpx.specs.Vp8Patches.{picture_id_end, picture_id_refusal, refusal_of_build};
 ghost use Rattle.payload_core_vpx.specs.Vp8Patches.{tl0_pic_idx_refusal, with_key_idx, with_picture_id};
 ghost use Rattle.payload_core_vpx.specs.Vp8Patches.{with_tl0_pic_idx};
 ghost use Rattle.std.specs.Option.{ForSome};
 ghost use Rattle.std.specs.Prelude.{◌≡◌, ◌<◌, IfErr, IfOk, None, Some, length};
 
-use crate::vp8_descriptor::Shape;
+use crate::vp8_descriptor::{Shape, Vp8Descriptor};
 use thiserror::Error;
 
 /// Why a patch is not built.
@@ -194,6 +195,23 @@ fn put_key_idx(out: &mut [u8], place: usize, index: Option<u8>)
 }
 
 impl Vp8Patch {
+    /// A patch of these ids, for payloads with the fields of this descriptor.
+    pub(crate) fn of(
+        descriptor: &Vp8Descriptor,
+        picture_id: Option<u16>,
+        tl0_pic_idx: Option<u8>,
+        key_idx: Option<u8>,
+    ) -> Self
+        ensures { result ≡ patch_with descriptor.now.shape picture_id tl0_pic_idx key_idx }
+    {
+        Vp8Patch {
+            shape: descriptor.shape(),
+            picture_id,
+            tl0_pic_idx,
+            key_idx,
+        }
+    }
+
     /// Copies a payload to `out`, which is as long, with the patch's ids in place of its own. All other bits
     /// stay. The payload reaches each byte that the patch writes, as the descriptor's own does.
     ///
