@@ -2,9 +2,10 @@
 //! Each call but `open` returns `CLOSED` at a closed handle, and changes nothing then.
 
 ghost use Rattle.std.specs.Prelude.{◌≡◌, ◌≢◌, None, Some, IsSome};
-ghost use Rattle.rtp_media_forward.specs.Forwarding.{after_packet, ended, nothing_from, placed, skipped, switched};
+ghost use Rattle.rtp_media_forward.specs.Forwarding.{after_packet, ended, is_next_of, nothing_from, passed_empty};
+ghost use Rattle.rtp_media_forward.specs.Forwarding.{placed, skipped, switched};
 ghost use Rattle.jilqamur.specs.Codes.{ok, memory, in_use, closed};
-ghost use Rattle.jilqamur.specs.Forwarders.{TellsPlaced};
+ghost use Rattle.jilqamur.specs.Forwarders.{TellsPlaced, code_of_next};
 ghost use Rattle.jilqamur.specs.Handles.{AtObject, answer_of};
 ghost use Rattle.jilqamur.specs.Held.{forwarder_in};
 
@@ -143,6 +144,34 @@ pub extern "C" fn jilqamur_forwarder_end_at(forwarder: &mut ForwarderHandle, num
     codes::OK
 }
 
+/// Leaves a source's packet out that carries nothing to send on, as one of only padding, and returns `OK`: the source's
+/// packet after it gets the number that it would have; `NOTHING` if it wouldn't get the next number, and it may be told
+/// again after the packets before it; or `MEMORY`. Nothing has changed unless it is `OK`.
+#[unsafe(no_mangle)]
+pub extern "C" fn jilqamur_forwarder_pass_empty(
+    forwarder: &mut ForwarderHandle,
+    source: u64,
+    number: u64,
+) -> u32
+    ensures outcome { AtObject (forwarder_in forwarder.old) (forwarder_in forwarder.new) result
+        (λ p after. result ≢ memory → result ≡ code_of_next (is_next_of p source number)) }
+    ensures passed { AtObject (forwarder_in forwarder.old) (forwarder_in forwarder.new) result
+        (λ p after. result ≡ ok → after ≡ passed_empty p source number) }
+    ensures unchanged { result ≢ ok → forwarder_in forwarder.new ≡ forwarder_in forwarder.old }
+{
+    if !forwarder.slot.is_open() {
+        return codes::CLOSED;
+    }
+    let Object::Forwarder(held) = forwarder.slot.place.held() else {
+        unreachable!();
+    };
+    match held.pass_empty(source, number) {
+        Ok(true) => codes::OK,
+        Ok(false) => codes::NOTHING,
+        Err(_) => codes::MEMORY,
+    }
+}
+
 /// Tells under which number and timestamp a source's packet of these is sent on, and returns `OK`; or `NOTHING` if it
 /// isn't sent on, and `told` is unchanged.
 #[unsafe(no_mangle)]
@@ -167,19 +196,21 @@ pub extern "C" fn jilqamur_forwarder_place(
     placed_code(held.place(source, number, time), told)
 }
 
-/// The same, and the number is given: the next piece begins above it.
+/// The same, and the number is given: the next piece begins above it. `ends` says whether the packet is the last one of
+/// its frame.
 #[unsafe(no_mangle)]
 pub extern "C" fn jilqamur_forwarder_forward(
     forwarder: &mut ForwarderHandle,
     source: u64,
     number: u64,
     time: u32,
+    ends: bool,
     told: &mut WirePlaced,
 ) -> u32
     ensures placed { AtObject (forwarder_in forwarder.old) (forwarder_in forwarder.new) result
         (λ p after. TellsPlaced (placed p source number time) told.old result told.new) }
     ensures given { AtObject (forwarder_in forwarder.old) (forwarder_in forwarder.new) result
-        (λ p after. after ≡ after_packet p (placed p source number time)) }
+        (λ p after. after ≡ after_packet p (placed p source number time) ends) }
     ensures closed { result ≡ closed → told.new ≡ told.old }
 {
     if !forwarder.slot.is_open() {
@@ -188,7 +219,7 @@ pub extern "C" fn jilqamur_forwarder_forward(
     let Object::Forwarder(held) = forwarder.slot.place.held() else {
         unreachable!();
     };
-    placed_code(held.forward(source, number, time), told)
+    placed_code(held.forward(source, number, time, ends), told)
 }
 
 /// Tells the first number above all those that were given, and returns `OK`.

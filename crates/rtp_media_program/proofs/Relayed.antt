@@ -17,7 +17,7 @@ use Rattle.rtp_media_forward.specs.Forwarding.{Forwarding, after_packet, placed}
 use Rattle.rtp_media_forward.specs.declared.forwarder.Placed.{Placed}
 use Rattle.rtp_media_program.specs.EndErrorNames.{forward_error_name}
 use Rattle.rtp_media_program.specs.Relaying.{Brought, Forwards, ForwardsAt, IsRelayStep, SendsOn, after_sending}
-use Rattle.rtp_media_program.specs.Relaying.{arrival_of}
+use Rattle.rtp_media_program.specs.Relaying.{arrival_of, ends_frame}
 use Rattle.rtp_media_program.specs.Relaying.{forwarder_at, with_forwarder}
 use Rattle.rtp_media_program.specs.Relaying.{outgoing_at, placed_step, sending_reply, taken_step, with_number}
 use Rattle.rtp_media_program.specs.Replies.{Prints, memory}
@@ -97,7 +97,8 @@ module _ (e : EndState) (f : Forwarding) (c : ForwardCommand) (p : Brought)
     (
       own,
       inl (
-          subst (λ (o : Option ℕ). IsRelayStep (taken_step (with_number e p) f c.stream p o) end f replies) (sym none)
+          subst (λ (o : Option ℕ). IsRelayStep (taken_step (with_number e p) f c.stream p (ends_frame e p) o) end f
+          replies) (sym none)
           (end_is, refl, printed)),
     ),
   )
@@ -105,18 +106,17 @@ module _ (e : EndState) (f : Forwarding) (c : ForwardCommand) (p : Brought)
   module _ (number : ℕ) (taken : taken_number (receiver_at e p.stream).stream p.low ≡ Some number) where
     steps : (q : Option Placed) (end : EndState) (forwarding : Forwarding) (replies : List Reply)
         → placed f p.stream number p.time ≡ q
-        → IsRelayStep (placed_step (with_number e p) f c.stream p number q) end forwarding replies
+        → IsRelayStep (placed_step (with_number e p) f c.stream p (ends_frame e p) number q) end forwarding replies
         → Forwards e f c end forwarding replies
     steps q end forwarding replies place step = inl (
       p,
       (
         own,
         inl (
-            subst (λ (o : Option ℕ). IsRelayStep (taken_step (with_number e p) f c.stream p o) end forwarding replies)
-            (sym taken)
-            (subst (λ (r : Option Placed). IsRelayStep (placed_step (with_number e p) f c.stream p number r) end
-            forwarding
-            replies) (sym place) step)),
+            subst (λ (o : Option ℕ). IsRelayStep (taken_step (with_number e p) f c.stream p (ends_frame e p) o) end
+            forwarding replies) (sym taken)
+            (subst (λ (r : Option Placed). IsRelayStep (placed_step (with_number e p) f c.stream p (ends_frame e p)
+            number r) end forwarding replies) (sym place) step)),
       ),
     )
 
@@ -127,7 +127,8 @@ module _ (e : EndState) (f : Forwarding) (c : ForwardCommand) (p : Brought)
         steps None end forwarding replies none (end_is, same, printed)
 
     pub passed-on : (at : Placed) (mid end : EndState) (forwarding : Forwarding) (told : Reply) (replies : List Reply)
-        → placed f p.stream number p.time ≡ Some at → mid ≡ with_number e p → forwarding ≡ after_packet f (Some at)
+        → placed f p.stream number p.time ≡ Some at → mid ≡ with_number e p
+        → forwarding ≡ after_packet f (Some at) (ends_frame e p)
         → SendsOn mid c.stream at.number (outgoing_at p at) end told
         → replies ≡ reply.Came p.stream number ∷ told ∷ [] → Forwards e f c end forwarding replies
     passed-on at mid end forwarding told replies place mid_is forwarding_is sent printed =
@@ -141,7 +142,8 @@ module _ (e : EndState) (f : Forwarding) (c : ForwardCommand) (p : Brought)
         )
 
     pub ran-out : (at : Placed) (mid end : EndState) (forwarding : Forwarding) (replies : List Reply)
-        → placed f p.stream number p.time ≡ Some at → mid ≡ with_number e p → forwarding ≡ after_packet f (Some at)
+        → placed f p.stream number p.time ≡ Some at → mid ≡ with_number e p
+        → forwarding ≡ after_packet f (Some at) (ends_frame e p)
         → end ≡ mid → Prints replies (reply.Refused memory) → Forwards e f c end forwarding replies
     ran-out at mid end forwarding replies place mid_is forwarding_is same printed = inl (
       p,

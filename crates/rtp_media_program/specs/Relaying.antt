@@ -6,6 +6,7 @@ use Rattle.rtp_wire.specs.declared.values.ExtensionValues.{ExtensionValues}
 use Rattle.rtp_media_streams.specs.Forwarding as stream
 use Rattle.rtp_media_streams.specs.Forwarding.{refusal_of_packet}
 use Rattle.rtp_media_streams.specs.Receiving.{number_taken, taken_number, with_stream}
+use Rattle.rtp_media_streams.specs.Rows.{format_of}
 use Rattle.rtp_media_streams.specs.Sending.{datagram_of}
 use Rattle.rtp_media_streams.specs.declared.errors.ForwardError.{ForwardError}
 use Rattle.rtp_media_stream_table.specs.Arrivals.{Arrival, Own, arrival_at}
@@ -13,7 +14,7 @@ use Rattle.rtp_media_ends.specs.EndArrivals.{after_datagram, verdict_of}
 use Rattle.rtp_media_ends.specs.Ends.{EndState, is_sender_at, receiver_at, sender_at, with_receiver, with_sender}
 use Rattle.rtp_media_ends.specs.Stops.{Where}
 use Rattle.rtp_media_forward.specs.Forwarding.{Forwarding, after_packet, ended, nothing_from, placed, reserved, skipped}
-use Rattle.rtp_media_forward.specs.Forwarding.{switched}
+use Rattle.rtp_media_forward.specs.Forwarding.{start_of, switched}
 use Rattle.rtp_media_forward.specs.declared.forwarder.Placed.{Placed}
 use Rattle.rtp_media_program.specs.EndErrorNames.{forward_error_name}
 use Rattle.rtp_media_program.specs.Exchanging.{AtEnd}
@@ -72,6 +73,10 @@ SendsOn e tx number o end told =
     (end ≡ after_sending e tx number (refusal_of_packet (sender_at e tx) number o))
     × (told ≡ sending_reply e tx number o (refusal_of_packet (sender_at e tx) number o))
 
+-- Whether a frame of the receiving stream ends with the packet.
+abbrev pub ends_frame : EndState → Brought → Bool
+ends_frame e p = (format_of (receiver_at e p.stream).row).tail p.marker p.payload
+
 -- What becomes of the end and of the forwarder, and the replies.
 pub record RelayStep : Type 0 where
   pub end : EndState
@@ -79,23 +84,25 @@ pub record RelayStep : Type 0 where
   pub replies : List Reply
 
 -- The packet's number is taken, and the forwarder says where it belongs.
-abbrev pub placed_step : EndState → Forwarding → (tx : ℕ) → Brought → (number : ℕ) → Option Placed → RelayStep
-placed_step e f tx p number None =
+abbrev pub placed_step : EndState → Forwarding → (tx : ℕ) → Brought → (ends : Bool) → (number : ℕ) → Option Placed
+    → RelayStep
+placed_step e f tx p ends number None =
     record { end = e; forwarding = f; replies = reply.Came p.stream number ∷ reply.NotSent ∷ [] }
-placed_step e f tx p number (Some at) = record {
+placed_step e f tx p ends number (Some at) = record {
   end = after_sending e tx at.number (refusal_of_packet (sender_at e tx) at.number (outgoing_at p at));
-  forwarding = after_packet f (Some at);
+  forwarding = after_packet f (Some at) ends;
   replies = reply.Came p.stream number ∷ sending_reply e tx at.number (outgoing_at p at)
       (refusal_of_packet (sender_at e tx) at.number (outgoing_at p at)) ∷ [];
 }
 
-abbrev pub taken_step : EndState → Forwarding → (tx : ℕ) → Brought → Option ℕ → RelayStep
-taken_step e f tx p None = record { end = e; forwarding = f; replies = reply.NotTaken ∷ [] }
-taken_step e f tx p (Some number) = placed_step e f tx p number (placed f p.stream number p.time)
+abbrev pub taken_step : EndState → Forwarding → (tx : ℕ) → Brought → (ends : Bool) → Option ℕ → RelayStep
+taken_step e f tx p ends None = record { end = e; forwarding = f; replies = reply.NotTaken ∷ [] }
+taken_step e f tx p ends (Some number) = placed_step e f tx p ends number (placed f p.stream number p.time)
 
 -- A packet comes, and is sent on by stream `tx`.
 abbrev pub relay_step : EndState → Forwarding → (tx : ℕ) → Brought → RelayStep
-relay_step e f tx p = taken_step (with_number e p) f tx p (taken_number (receiver_at e p.stream).stream p.low)
+relay_step e f tx p = taken_step (with_number e p) f tx p (ends_frame e p)
+    (taken_number (receiver_at e p.stream).stream p.low)
 
 abbrev pub IsRelayStep : RelayStep → EndState → Forwarding → List Reply → Type 0
 IsRelayStep step end forwarding replies =
@@ -109,7 +116,7 @@ pub record RunsOutOfMemory (e : EndState) (f : Forwarding) (p : Brought) (end : 
   pub taken : taken_number (receiver_at e p.stream).stream p.low ≡ Some number
   pub place : placed f p.stream number p.time ≡ Some at
   pub end_is : end ≡ with_number e p
-  pub forwarding_is : forwarding ≡ after_packet f (Some at)
+  pub forwarding_is : forwarding ≡ after_packet f (Some at) (ends_frame e p)
   pub printed : Prints replies (reply.Refused memory)
 
 -- The datagram is a receiving stream's own.
@@ -167,7 +174,8 @@ abbrev pub IsMarked : Mark → ℕ → Forwarding → Forwarding → Reply → T
 IsMarked Leave number old new told = Becomes old (skipped old number) reply.Done new told
 IsMarked Ends number old new told = (new ≡ ended old number) × (told ≡ reply.Done)
 IsMarked Reserve number old new told =
-    Where (nat_le (old.next + number) (2 ^ 62)) (Becomes old (reserved old number) (reply.Next old.next) new told)
+    Where (nat_le (start_of old + number) (2 ^ 62))
+    (Becomes old (reserved old number) (reply.Next (start_of old)) new told)
     ((new ≡ old) × (told ≡ reply.Refused (codes "NumberTooLarge")))
 
 -- leave R NUMBER, ends R NUMBER, reserve R COUNT

@@ -153,6 +153,8 @@ fn forward_by(
         Ok(found) => found,
         Err(verdict) => return one(alloc, verdict_reply(verdict)),
     };
+    let payload = &datagram[packet.start..packet.end];
+    let ends = end.ends_frame(source, packet.marker, payload);
     let Some(number) = end.take_number(source, packet.low) else {
         return one(alloc, Reply::NotTaken);
     };
@@ -161,10 +163,9 @@ fn forward_by(
         stream: source,
         number,
     };
-    let Some(at) = forwarder.forward(source as u64, number, packet.time) else {
+    let Some(at) = forwarder.forward(source as u64, number, packet.time, ends) else {
         return two(alloc, came, Reply::NotSent);
     };
-    let payload = &datagram[packet.start..packet.end];
     match send_on(end, command.stream, at, packet, payload) {
         Ok(sent) => two(alloc, came, sent),
         Err(_) => one(alloc, Reply::Refused(memory())),

@@ -37,7 +37,7 @@ impl Subscriber {
 
     /// The size of the datagram that a packet becomes, 0 if it isn't sent on.
     fn send(&mut self, number: u64, arrival: &Arrival, payload: &[u8]) -> usize {
-        let Some(placed) = self.forwarder.forward(0, number, arrival.time) else {
+        let Some(placed) = self.forwarder.forward(0, number, arrival.time, true) else {
             return 0;
         };
         if !self.table.is_sender(self.stream) {

@@ -1,4 +1,4 @@
-use Rattle.std.proofs.Common.{◌≡◌, ℕ, List, sym, ◌∙◌, ap, subst, Some, Result, Ok, Err, IfOk, [], ◌∷◌}
+use Rattle.std.proofs.Common.{◌≡◌, ℕ, Bool, List, sym, ◌∙◌, ap, ap₂, subst, Some, Result, Ok, Err, IfOk, [], ◌∷◌}
 use Rattle.std.specs.Prelude.{Option, slice_range}
 use Rattle.rtp_media_streams.specs.Receiving.{taken_number}
 use Rattle.rtp_media_streams.specs.declared.receiver.Arrival.{Arrival}
@@ -49,8 +49,8 @@ returns-in_default-forward c =
     (λ replies printed. not-placed c.args.end.now c.args.forwarder.now c.args.command p own c.get-number.result taken _
     _
     replies.items (sym c.in_default-forward.ensures.placed) c.take_number.ensures.after
-    (c.forward.ensures.after ∙ ap (λ (q : Option Placed). after_packet c.args.forwarder.now q)
-    (sym c.in_default-forward.ensures.placed)) printed) c.two.ensures
+    (c.forward.ensures.after ∙ ap₂ (λ (q : Option Placed) (b : Bool). after_packet c.args.forwarder.now q b)
+    (sym c.in_default-forward.ensures.placed) c.ends_frame-ends.ensures) printed) c.two.ensures
 
 pub returns-in-Ok-send_on : goal.returns-in-Ok-send_on
 returns-in-Ok-send_on c =
@@ -64,8 +64,8 @@ returns-in-Ok-send_on c =
     (λ replies printed. passed-on c.args.end.now c.args.forwarder.now c.args.command p own c.get-number.result taken
     c.in-Some-forward.at c.take_number.new.self _ _ _ replies.items (sym c.in-Some-forward.ensures.placed)
     c.take_number.ensures.after
-    (c.forward.ensures.after ∙ ap (λ (q : Option Placed). after_packet c.args.forwarder.now q)
-    (sym c.in-Some-forward.ensures.placed)) c.in-Ok-send_on.ensures.sent printed) c.two-in-Ok-send_on.ensures
+    (c.forward.ensures.after ∙ ap₂ (λ (q : Option Placed) (b : Bool). after_packet c.args.forwarder.now q b)
+    (sym c.in-Some-forward.ensures.placed) c.ends_frame-ends.ensures) c.in-Ok-send_on.ensures.sent printed) c.two-in-Ok-send_on.ensures
 
 pub returns : goal.returns
 returns c =
@@ -79,7 +79,7 @@ returns c =
     (λ replies printed. ran-out c.args.end.now c.args.forwarder.now c.args.command p own c.get-number.result taken
     c.in-Some-forward.at c.take_number.new.self _ _ replies.items (sym c.in-Some-forward.ensures.placed)
     c.take_number.ensures.after
-    (c.forward.ensures.after ∙ ap (λ (q : Option Placed). after_packet c.args.forwarder.now q)
-    (sym c.in-Some-forward.ensures.placed)) c.in-Err-send_on.ensures.unchanged
+    (c.forward.ensures.after ∙ ap₂ (λ (q : Option Placed) (b : Bool). after_packet c.args.forwarder.now q b)
+    (sym c.in-Some-forward.ensures.placed) c.ends_frame-ends.ensures) c.in-Err-send_on.ensures.unchanged
     (printed ∙ ap (λ (name : List ℕ). let rs : List Reply = reply.Refused name ∷ [] in rs) c.memory.ensures))
     c.one-in-Err-send_on.ensures
