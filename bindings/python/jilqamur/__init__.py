@@ -8,14 +8,17 @@ no socket and encrypts nothing.
     answer = b.answer(a.offer([Section("0", False, ssrcs=[44])]), [Section("0", False, ssrcs=[45])])
     a.accept(answer)
 
-`libjilqamur.so.0` is taken from this folder, from the system, or from the file that `JILQAMUR_LIBRARY` names. A call on
-one object must not overlap another one on it; objects share nothing, and may move to other threads.
+`libjilqamur.so.0` is taken from this folder, from the system, or from the file that `JILQAMUR_LIBRARY` names. Any
+thread may call any object: a call waits for another one on the same object, and objects share nothing. A call that
+can't be done raises: `Refused` if the library refuses it, also at a closed object; `OverflowError` for a number that
+doesn't fit its field, and `TypeError` for what isn't of the kind that is wanted.
 """
 
-from .codes import Code, Refused
-from .ends import (AgreedSection, Arrival, Direction, End, Remote, Section, SectionRequest, Setup, Taken, Verdict)
-from .library import ExtensionIds, Header
+from .codes import Code, Place, Refused
+from .ends import End
+from .sections import (AgreedSection, Arrival, Direction, Remote, Section, SectionRequest, Setup, Taken, Verdict)
 from .streams import Depacketizer, Forwarder, Packet, Packetizer, Placed, Receiver, Sender, Window
+from .structs import ExtensionIds, Header
 from .values import (EXTENSIONS, MAX_HELD, MIN_HELD, Event, FaultyLine, Format, LineFault, Names, PacketInfo, Row, Unit,
                      Values, faulty_line, packet_info, payload_of, read_header, read_values, widen, write_header)
 
@@ -24,7 +27,7 @@ __version__ = "0.9.0"
 __all__ = [
     "AgreedSection", "Arrival", "Code", "Depacketizer", "Direction", "EXTENSIONS", "End", "Event", "ExtensionIds",
     "FaultyLine", "Format", "Forwarder", "Header", "LineFault", "MAX_HELD", "MIN_HELD", "Names", "Packet", "PacketInfo",
-    "Packetizer", "Placed", "Receiver", "Refused", "Remote", "Row", "Section", "SectionRequest", "Sender", "Setup",
-    "Taken", "Unit", "Values", "Verdict", "Window", "faulty_line", "packet_info", "payload_of", "read_header",
+    "Packetizer", "Place", "Placed", "Receiver", "Refused", "Remote", "Row", "Section", "SectionRequest", "Sender",
+    "Setup", "Taken", "Unit", "Values", "Verdict", "Window", "faulty_line", "packet_info", "payload_of", "read_header",
     "read_values", "widen", "write_header",
 ]

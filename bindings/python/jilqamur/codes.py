@@ -1,5 +1,6 @@
 """What calls of the library answer, by number, and what that means."""
 
+from dataclasses import dataclass
 from enum import IntEnum
 
 
@@ -138,15 +139,55 @@ TEXTS = {
 }
 
 
+# What isn't about one row, section or stream, but about the whole end or its text.
+OF_THE_END = {Code.MEMORY, Code.NOT_MADE, Code.OUT_OF_TURN, Code.TEXT_UNREADABLE, Code.REST_UNREAD, Code.CLOSED}
+
+
+@dataclass(frozen=True)
+class Place:
+    """What a refused call was about: a row (`codec`, `payload_type`), a header extension (`extension`, its id, and
+    `uri`), sections (`mids`), a stream that was to be opened (`mids`, `ssrc`, `payload_type`), or one that is open
+    (`stream`, its number), or a codec."""
+
+    codec: str | None = None
+    payload_type: int | None = None
+    extension: int | None = None
+    uri: str | None = None
+    mids: tuple[str, ...] = ()
+    ssrc: int | None = None
+    stream: int | None = None
+
+    def __str__(self) -> str:
+        if self.codec is not None:
+            if self.payload_type is None:
+                return f"codec {self.codec}"
+            return f"row {self.codec} at type {self.payload_type}"
+        if self.extension is not None:
+            return f"extension {self.uri} at id {self.extension}"
+        if self.ssrc is not None:
+            return f"section {self.mids[0]}, SSRC {self.ssrc}, type {self.payload_type}"
+        if self.stream is not None:
+            return f"stream {self.stream}"
+        return f"section{'s' if len(self.mids) > 1 else ''} {', '.join(self.mids)}"
+
+
 class Refused(Exception):
-    """A call was refused: `code` says why, and the object that was asked is as its method tells."""
+    """A call was refused: `code` says why, `place` what about, as far as that is known, and the object that was asked
+    is as its method tells."""
 
-    def __init__(self, code: int) -> None:
+    def __init__(self, code: int, place: Place | None = None) -> None:
         self.code = Code(code)
-        super().__init__(TEXTS[self.code])
+        self.place = None if self.code in OF_THE_END else place
+        super().__init__(TEXTS[self.code] if self.place is None else f"{TEXTS[self.code]} ({self.place})")
 
 
-def done(code: int) -> None:
-    """Nothing where the call was done; else it is raised why it wasn't."""
-    if code != Code.OK:
-        raise Refused(code)
+def done(code: int, place: Place | None = None) -> None:
+    """Nothing if the call was done; else it is raised why it wasn't, and what about."""
+    if code:
+        raise Refused(code, place)
+
+
+def done_of(code: int, stream: int | None) -> None:
+    """The same of a call about a stream, by its number."""
+    if code:
+        raise Refused(code, None if stream is None else Place(stream=stream))

@@ -1,12 +1,16 @@
-"""The shared library, its structs and its calls, as jilqamur.h declares them."""
+"""The shared library and its calls, as jilqamur.h declares them, and handles."""
 
 import ctypes
 import os
-from ctypes import POINTER, byref, c_bool, c_int8, c_int64, c_size_t, c_uint8, c_uint16, c_uint32, c_uint64, c_void_p
+from ctypes import POINTER, byref, c_bool, c_size_t, c_uint8, c_uint16, c_uint32, c_uint64, c_void_p
 from pathlib import Path
+from threading import RLock
 from typing import Any, Callable, TypeVar
 
 from .codes import Code, done
+from .structs import (ArrivalStruct, ExtensionIds, FormatStruct, Handle, Header, NamesStruct, PacketInfoStruct,
+                      PacketizerStruct, PlacedStruct, RemoteStruct, RowStruct, SectionStruct, SenderStruct,
+                      StreamStruct, UnitStruct, ValuesStruct)
 
 NAME = "libjilqamur.so.0"
 
@@ -19,108 +23,9 @@ def found() -> str:
     return os.environ.get("JILQAMUR_LIBRARY") or (str(beside) if beside.is_file() else NAME)
 
 
-class Struct(ctypes.Structure):
-    """A struct of the header; two are equal if all their fields are."""
-
-    def told(self) -> dict[str, Any]:
-        return {field[0]: getattr(self, field[0]) for field in self._fields_}
-
-    def __repr__(self) -> str:
-        return f"{type(self).__name__}({', '.join(f'{name}={value!r}' for name, value in self.told().items())})"
-
-
-class Handle(Struct):
-    _fields_ = [("full", c_bool), ("place", c_void_p)]
-
-
-class Header(Struct):
-    """The header of an RTP packet (RFC 3550 5.1), without the values of its extensions."""
-
-    _fields_ = [("has_padding", c_bool), ("has_extension", c_bool), ("marker", c_bool), ("payload_type", c_uint8),
-                ("sequence_number", c_uint16), ("timestamp", c_uint32), ("ssrc", c_uint32), ("csrc_count", c_uint32),
-                ("csrc", c_uint32 * 15), ("header_len", c_size_t)]
-
-
-class FormatStruct(Struct):
-    _fields_ = [("clock_rate", c_uint32), ("has_octet_align", c_bool), ("octet_align", c_bool),
-                ("has_max_don_diff", c_bool), ("max_don_diff", c_uint16)]
-
-
-class UnitStruct(Struct):
-    _fields_ = [("first", c_uint64), ("last", c_uint64), ("time", c_uint32), ("is_keyframe", c_bool),
-                ("has_picture_id", c_bool), ("picture_id", c_uint16), ("has_base_layer", c_bool),
-                ("base_layer", c_uint8), ("has_event", c_bool), ("event", c_uint8), ("event_end", c_bool),
-                ("event_volume", c_uint8), ("event_duration", c_uint64)]
-
-
-class PacketizerStruct(Struct):
-    _fields_ = [("has_picture_id", c_bool), ("picture_id", c_uint16), ("for_browsers", c_bool)]
-
-
-class RowStruct(Struct):
-    _fields_ = [("payload_type", c_uint8), ("has_resend", c_bool), ("resend", c_uint8), ("has_red", c_bool),
-                ("red", c_uint8), ("clock_rate", c_uint32), ("has_channels", c_bool), ("channels", c_uint8)]
-
-
-class RemoteStruct(Struct):
-    _fields_ = [("has_setup", c_bool), ("setup", c_uint8), ("has_own_setup", c_bool), ("own_setup", c_uint8),
-                ("is_trickling", c_bool), ("is_lite", c_bool), ("candidates", c_size_t)]
-
-
-class SectionStruct(Struct):
-    _fields_ = [("is_video", c_bool), ("sends", c_bool), ("receives", c_bool), ("rows", c_size_t), ("ssrcs", c_size_t)]
-
-
-class StreamStruct(Struct):
-    _fields_ = [("first", c_uint64), ("mtu", c_size_t), ("limit", c_size_t), ("has_red", c_bool),
-                ("has_picture_id", c_bool), ("picture_id", c_uint16), ("for_browsers", c_bool)]
-
-
-class ValuesStruct(Struct):
-    _fields_ = [("has_audio_level", c_bool), ("audio_level", c_int8), ("has_voice_activity", c_bool),
-                ("voice_activity", c_bool), ("has_abs_send_time", c_bool), ("abs_send_time", c_uint64),
-                ("has_transport_cc", c_bool), ("transport_cc", c_uint16), ("has_video_orientation", c_bool),
-                ("video_orientation", c_uint8), ("has_play_delay_min", c_bool), ("play_delay_min", c_uint16),
-                ("has_play_delay_max", c_bool), ("play_delay_max", c_uint16), ("has_video_content_type", c_bool),
-                ("video_content_type", c_uint8), ("has_capture_time", c_bool), ("capture_time", c_uint64),
-                ("has_clock_offset", c_bool), ("clock_offset", c_int64)]
-
-
-class ExtensionIds(Struct):
-    """The ids of header extensions (RFC 8285), 1 to 16; 0 for one that has none. `EXTENSIONS` has their URIs."""
-
-    _fields_ = [(name, c_uint8) for name in ("audio_level", "abs_send_time", "transport_cc", "video_orientation",
-                                             "play_delay", "video_content_type", "capture_time", "mid", "rid",
-                                             "repaired_rid")]
-
-
-class NamesStruct(Struct):
-    _fields_ = [("has_mid", c_bool), ("mid_len", c_uint8), ("mid", c_uint8 * 16), ("has_rid", c_bool),
-                ("rid_len", c_uint8), ("rid", c_uint8 * 8), ("has_repaired_rid", c_bool),
-                ("repaired_rid_len", c_uint8), ("repaired_rid", c_uint8 * 8)]
-
-
-class PacketInfoStruct(Struct):
-    _fields_ = [("is_head", c_bool), ("is_tail", c_bool), ("shows_key_frame", c_bool), ("has_spatial_layer", c_bool),
-                ("spatial_layer", c_uint8), ("has_temporal_layer", c_bool), ("temporal_layer", c_uint8)]
-
-
-class ArrivalStruct(Struct):
-    _fields_ = [("low", c_uint16), ("timestamp", c_uint32), ("marker", c_bool), ("start", c_size_t), ("end", c_size_t)]
-
-
-class SenderStruct(Struct):
-    _fields_ = [("ssrc", c_uint32), ("payload_type", c_uint8), ("first", c_uint64), ("mtu", c_size_t),
-                ("limit", c_size_t), ("has_picture_id", c_bool), ("picture_id", c_uint16), ("for_browsers", c_bool)]
-
-
-class PlacedStruct(Struct):
-    _fields_ = [("number", c_uint64), ("timestamp", c_uint32)]
-
-
 HANDLE = POINTER(Handle)
 TEXT = [ctypes.c_char_p, c_size_t]
-OUT = [POINTER(c_uint8), c_size_t, POINTER(c_size_t)]
+OUT = [c_void_p, c_size_t, POINTER(c_size_t)]
 SSRCS = [POINTER(c_uint32), c_size_t]
 SIZE, NUMBER = POINTER(c_size_t), POINTER(c_uint64)
 
@@ -212,17 +117,28 @@ CALLS: dict[str, list[Any]] = {
     "forwarder_next": [HANDLE, NUMBER],
 }
 
+# The calls for each datagram and each unit, which are also had without declared parameters: that takes a fifth of the
+# time, and each argument has to be of its type then.
+BARE = ("packetizer_packet", "depacketizer_unit", "end_push_sample", "end_datagram", "end_receive", "end_poll",
+        "end_drain", "end_unit", "sender_push_sample", "sender_datagram", "receiver_poll",
+        "receiver_unit")
+
 
 class Library:
-    """The calls of the shared library, by their names without `jilqamur_`."""
+    """The calls of the shared library, by their names without `jilqamur_`. They keep the interpreter's lock, since they
+    take microseconds: so no two of them overlap, even on one handle."""
 
     def __init__(self) -> None:
-        library = ctypes.CDLL(found())
+        library = ctypes.PyDLL(found())
         for name, parameters in CALLS.items():
-            call = getattr(library, f"jilqamur_{name}")
+            call = library[f"jilqamur_{name}"]
             call.argtypes = parameters
             call.restype = c_uint64 if name == "number_widen" else c_uint32
             setattr(self, name, call)
+        for name in BARE:
+            call = library[f"jilqamur_{name}"]
+            call.restype = c_uint32
+            setattr(self, f"bare_{name}", call)
 
     def __getattr__(self, name: str) -> Callable[..., int]:
         raise AttributeError(f"the library has no call jilqamur_{name}")
@@ -230,54 +146,87 @@ class Library:
 
 lib = Library()
 
+SIZES = [c_size_t(number) for number in range(2048)]
+MOST_ROOM = 1 << 20
 
-def text(given: str | bytes) -> tuple[bytes, int]:
-    """The bytes of a text, and how many there are."""
-    data = given.encode() if isinstance(given, str) else bytes(given)
-    return data, len(data)
+
+def size_at(number: int) -> c_size_t:
+    """A size, for a call without declared parameters."""
+    return SIZES[number] if number < 2048 else c_size_t(number)
+
+
+def buffer(size: int) -> Any:
+    """Room for bytes that a call copies."""
+    return ctypes.create_string_buffer(size)
 
 
 def fetched(call: Callable[..., int], *before: Any, after: tuple[Any, ...] = ()) -> bytes:
-    """What a call copies: it is asked for the size first, and then for the bytes."""
-    needed = c_size_t()
-    room = (c_uint8 * 1)()
-    code = call(*before, room, 0, byref(needed), *after)
+    """What a call copies: it is asked with some room first, and again if that is too small."""
+    needed, room = c_size_t(), buffer(256)
+    code = call(*before, room, 256, byref(needed), *after)
     if code == Code.TOO_SMALL:
-        room = (c_uint8 * needed.value)()
+        room = buffer(needed.value)
         code = call(*before, room, needed.value, byref(needed), *after)
     done(code)
-    return bytes(room)[:needed.value]
+    return room[:needed.value]
 
 
 def fetched_if(call: Callable[..., int], *before: Any, after: tuple[Any, ...] = ()) -> bytes | None:
-    """The same; None where there is nothing to copy."""
+    """The same; None if there is nothing to copy."""
     needed = c_size_t()
-    if call(*before, (c_uint8 * 1)(), 0, byref(needed), *after) == Code.NOTHING:
+    if call(*before, buffer(1), 0, byref(needed), *after) == Code.NOTHING:
         return None
     return fetched(call, *before, after=after)
 
 
 class Owner:
-    """What holds an open handle, and closes it when it is dropped or at the end of a `with`."""
+    """What holds a handle, and closes it when it is dropped or at the end of a `with`. One call at a time: another one
+    on the same object waits."""
 
     _close = ""
+    _handle: Handle
+    _at: Any  # where the handle is, for a call
+    _room: Any  # where calls copy to, kept between calls
+    _size: c_size_t  # of the room
+    _needed: c_size_t  # what a call says that it needs
+    _needed_at: Any
 
-    def __init__(self) -> None:
-        self._handle = Handle()
+    def __new__(cls, *_: object, **__: object) -> Any:
+        owner = super().__new__(cls)
+        owner._handle, owner._lock = Handle(), RLock()
+        owner._at = byref(owner._handle)
+        owner._room, owner._size, owner._needed = buffer(2048), c_size_t(2048), c_size_t()
+        owner._needed_at = byref(owner._needed)
+        return owner
 
-    @property
-    def _at(self) -> Any:
-        return byref(self._handle)
+    def _copied(self, call: Callable[..., int], before: tuple[Any, ...] = (), after: tuple[Any, ...] = ()) -> bytes:
+        """What a call without declared parameters copies into the room of this object. The lock is held."""
+        code = call(self._at, *before, self._room, self._size, self._needed_at, *after)
+        if code == Code.TOO_SMALL:
+            size = self._needed.value
+            room = buffer(1 << size.bit_length() if size < MOST_ROOM else size)
+            code = call(self._at, *before, room, c_size_t(len(room)), self._needed_at, *after)
+            if size >= MOST_ROOM:
+                done(code)
+                return room[:size]
+            self._room, self._size = room, c_size_t(len(room))
+        done(code)
+        return self._room[:self._needed.value]
 
     def close(self) -> None:
-        """Frees what is held; nothing can be asked afterwards."""
-        getattr(lib, self._close)(self._at)
+        """Frees what is held, once a call of another thread has ended. Every call but this one is refused afterwards,
+        CLOSED."""
+        with self._lock:
+            getattr(lib, self._close)(self._at)
 
     def __enter__(self: T) -> T:
         return self
 
     def __exit__(self, *_: object) -> None:
         self.close()
+
+    def __reduce_ex__(self, _: object) -> Any:
+        raise TypeError(f"{type(self).__name__} can't be copied")
 
     def __del__(self) -> None:
         if self._handle.full:

@@ -5,20 +5,43 @@ from ctypes import byref
 from dataclasses import dataclass
 from typing import Any, Callable
 
-from .codes import Code, done
-from .library import (Owner, PacketizerStruct, PlacedStruct, SenderStruct, UnitStruct, c_bool, c_size_t, c_uint64,
-                      fetched, lib, text)
-from .values import MIN_HELD, Format, Unit, given, is_taken
+from .checks import bytes_of, u16, u32, u64
+from .codes import Code, Place, Refused, done
+from .library import Owner, c_bool, c_size_t, c_uint64, lib, size_at
+from .structs import PacketizerStruct, PlacedStruct, SenderStruct, UnitStruct
+from .values import MIN_HELD, Format, Unit, data, given, is_taken, text
 
 
-def unit_of(code: int, copy: Callable[..., int], handle: Any) -> Unit | None:
-    """The unit that a poll handed out, by its answer."""
-    if code == Code.NOTHING:
-        return None
-    done(code)
-    told = UnitStruct()
-    data = fetched(copy, handle, after=(byref(told),))
-    return Unit.of(told, data)
+class UnitOwner(Owner):
+    """What hands units out."""
+
+    _told: UnitStruct  # what a call tells of a unit
+    _told_at: tuple[Any]
+
+    def __new__(cls, *_: object, **__: object) -> Any:
+        owner = super().__new__(cls)
+        owner._told = UnitStruct()
+        owner._told_at = (byref(owner._told),)
+        return owner
+
+    def _unit(self, copy: Callable[..., int]) -> Unit:
+        """The unit that a poll handed out. The lock is held."""
+        return Unit.of(self._told, self._copied(copy, (), self._told_at))
+
+    def _polled(self, poll: Callable[..., int], copy: Callable[..., int]) -> Unit | None:
+        """What a poll hands out."""
+        with self._lock:
+            code = poll(self._at)
+            if code == Code.NOTHING:
+                return None
+            done(code)
+            return self._unit(copy)
+
+
+def picture(params: Any, picture_id: int | None) -> Any:
+    """The same parameters with a first picture id, if there is one."""
+    given(params, "picture_id", picture_id)
+    return params
 
 
 class Window(Owner):
@@ -28,13 +51,16 @@ class Window(Owner):
 
     def __init__(self) -> None:
         super().__init__()
-        done(lib.window_open(self._at))
+        with self._lock:
+            done(lib.window_open(self._at))
 
     def receive(self, datagram: bytes) -> int | None:
         """The widened number of a datagram, which is recorded; None if it came before, or is 1,024 or more below the
         greatest. `Refused`, UNREADABLE."""
         number = c_uint64()
-        return number.value if is_taken(lib.window_receive(self._at, *text(datagram), byref(number))) else None
+        with self._lock:
+            code = lib.window_receive(self._at, *data("datagram", datagram), byref(number))
+        return number.value if is_taken(code) else None
 
 
 @dataclass(frozen=True)
@@ -53,22 +79,26 @@ class Packetizer(Owner):
 
     def __init__(self, codec: str, format: Format, picture_id: int | None = None, for_browsers: bool = False) -> None:
         super().__init__()
-        params = PacketizerStruct(for_browsers=for_browsers)
-        given(params, "picture_id", picture_id)
-        done(lib.packetizer_open(self._at, byref(params), byref(format.struct()), *text(codec)))
+        params = picture(PacketizerStruct(for_browsers=bool(for_browsers)), picture_id)
+        with self._lock:
+            done(lib.packetizer_open(self._at, byref(params), byref(format.struct()), *text("codec", codec)),
+                 Place(codec=codec))
 
     def packetize(self, mtu: int, sample: bytes) -> list[Packet]:
-        """The payloads of a sample, each of at most `mtu` bytes. `Refused` says why the codec doesn't take it."""
+        """The payloads of a sample, each of at most `mtu` bytes. `Refused`, OUT_OF_RANGE for an `mtu` of 0, or why the
+        codec doesn't take the sample."""
+        sample, mtu = bytes_of("sample", sample), u64("mtu", mtu)
+        if mtu == 0:
+            raise Refused(Code.OUT_OF_RANGE)
         count, marker = c_size_t(), c_bool()
-        done(lib.packetizer_packetize(self._at, mtu, *text(sample), byref(count)))
-        packets = []
-        for index in range(count.value):
-            payload = fetched(lib.packetizer_packet, self._at, index, after=(byref(marker),))
-            packets.append(Packet(payload, marker.value))
-        return packets
+        after = (byref(marker),)
+        with self._lock:
+            done(lib.packetizer_packetize(self._at, mtu, sample, len(sample), byref(count)))
+            return [Packet(self._copied(lib.bare_packetizer_packet, (size_at(index),), after), marker.value)
+                    for index in range(count.value)]
 
 
-class Depacketizer(Owner):
+class Depacketizer(UnitOwner):
     """A depacketizer of a codec, after a buffer that puts packets in order. Past a missing packet a unit is handed out
     only once more than `hold_back` frames are complete; at most `held` packets wait."""
 
@@ -76,20 +106,24 @@ class Depacketizer(Owner):
 
     def __init__(self, codec: str, format: Format, hold_back: int, held: int = MIN_HELD) -> None:
         super().__init__()
-        done(lib.depacketizer_open(self._at, byref(format.struct()), *text(codec), hold_back, held))
+        with self._lock:
+            done(lib.depacketizer_open(self._at, byref(format.struct()), *text("codec", codec),
+                                       u64("hold_back", hold_back), u64("held", held)), Place(codec=codec))
 
     def push(self, number: int, timestamp: int, marker: bool, payload: bytes) -> None:
         """Takes a packet by its widened number. One whose number is held, or not above the last unit's, is dropped."""
-        done(lib.depacketizer_push(self._at, number, timestamp, marker, *text(payload)))
+        with self._lock:
+            done(lib.depacketizer_push(self._at, u64("number", number), u32("timestamp", timestamp), bool(marker),
+                                       *data("payload", payload)))
 
     def pop(self) -> Unit | None:
         """The next unit, if one is due. `Refused` says why a packet of the next frame isn't read; that frame is
         dropped."""
-        return unit_of(lib.depacketizer_pop(self._at), lib.depacketizer_unit, self._at)
+        return self._polled(lib.depacketizer_pop, lib.bare_depacketizer_unit)
 
     def drain(self) -> Unit | None:
         """The same, even if a packet before the first complete frame is missing: for the end of a stream."""
-        return unit_of(lib.depacketizer_drain(self._at), lib.depacketizer_unit, self._at)
+        return self._polled(lib.depacketizer_drain, lib.bare_depacketizer_unit)
 
 
 class Sender(Owner):
@@ -101,41 +135,49 @@ class Sender(Owner):
                  limit: int | None = None, picture_id: int | None = None, for_browsers: bool = False) -> None:
         super().__init__()
         params = SenderStruct(ssrc=ssrc, payload_type=payload_type, first=first, mtu=mtu,
-                              limit=mtu + 12 if limit is None else limit, for_browsers=for_browsers)
-        given(params, "picture_id", picture_id)
-        done(lib.sender_open(self._at, byref(params), byref(format.struct()), *text(codec)))
+                              limit=mtu + 12 if limit is None else limit, for_browsers=bool(for_browsers))
+        picture(params, picture_id)
+        with self._lock:
+            done(lib.sender_open(self._at, byref(params), byref(format.struct()), *text("codec", codec)),
+                 Place(codec=codec))
 
     def push_sample(self, ticks: int, sample: bytes) -> list[bytes]:
         """The datagrams of a sample at a time in ticks of the stream's clock. `Refused`, STREAM_FAILED,
         TIME_TOO_LARGE, LIMIT_TOO_SMALL or PAYLOAD."""
-        count = c_size_t()
-        done(lib.sender_push_sample(self._at, ticks, *text(sample), byref(count)))
-        return [fetched(lib.sender_datagram, self._at, index) for index in range(count.value)]
+        sample, at, needed = bytes_of("sample", sample), self._at, self._needed
+        with self._lock:
+            done(lib.bare_sender_push_sample(at, c_uint64(u64("ticks", ticks)), sample, size_at(len(sample)),
+                                             self._needed_at))
+            return [self._copied(lib.bare_sender_datagram, (size_at(index),)) for index in range(needed.value)]
 
 
-class Receiver(Owner):
+class Receiver(UnitOwner):
     """A receiving stream of a codec, without an end. `hold_back` and `held` are those of `Depacketizer`."""
 
     _close = "receiver_close"
 
     def __init__(self, codec: str, format: Format, hold_back: int, held: int = MIN_HELD) -> None:
         super().__init__()
-        done(lib.receiver_open(self._at, byref(format.struct()), *text(codec), hold_back, held))
+        with self._lock:
+            done(lib.receiver_open(self._at, byref(format.struct()), *text("codec", codec),
+                                   u64("hold_back", hold_back), u64("held", held)), Place(codec=codec))
 
     def push(self, sequence_number: int, timestamp: int, marker: bool, payload: bytes) -> int | None:
         """Takes a packet by the low 16 bits of its number, and returns the widened number; None if it came before, or
         is 1,024 or more below the greatest."""
         number = c_uint64()
-        code = lib.receiver_push(self._at, sequence_number, timestamp, marker, *text(payload), byref(number))
+        with self._lock:
+            code = lib.receiver_push(self._at, u16("sequence_number", sequence_number), u32("timestamp", timestamp),
+                                     bool(marker), *data("payload", payload), byref(number))
         return number.value if is_taken(code) else None
 
     def poll(self) -> Unit | None:
         """The next unit, if one is ready. `Refused`, PAYLOAD, if its frame can't be read; that frame is dropped."""
-        return unit_of(lib.receiver_poll(self._at), lib.receiver_unit, self._at)
+        return self._polled(lib.bare_receiver_poll, lib.bare_receiver_unit)
 
     def drain(self) -> Unit | None:
         """The same, even if a packet before the first complete unit is missing: for the end of a stream."""
-        return unit_of(lib.receiver_drain(self._at), lib.receiver_unit, self._at)
+        return self._polled(lib.receiver_drain, lib.bare_receiver_unit)
 
     def units(self) -> Iterator[Unit]:
         """All units that are ready."""
@@ -158,24 +200,31 @@ class Forwarder(Owner):
 
     def __init__(self, first: int) -> None:
         super().__init__()
-        done(lib.forwarder_open(self._at, first))
+        with self._lock:
+            done(lib.forwarder_open(self._at, u64("first", first)))
 
     def switch(self, source: int, number: int, timestamp: int, at: int) -> None:
         """Goes over to a source, from its packet of this number and timestamp on, which gets the timestamp `at` and the
         next number."""
-        done(lib.forwarder_switch(self._at, source, number, timestamp, at))
+        with self._lock:
+            done(lib.forwarder_switch(self._at, u64("source", source), u64("number", number),
+                                      u32("timestamp", timestamp), u32("at", at)))
 
     def skip_to(self, number: int) -> None:
         """Leaves out what the last source sends before the packet of this number, which gets the next number."""
-        done(lib.forwarder_skip_to(self._at, number))
+        with self._lock:
+            done(lib.forwarder_skip_to(self._at, u64("number", number)))
 
     def end_at(self, number: int) -> None:
         """Says that what is sent on of the last source ends before its packet of this number."""
-        done(lib.forwarder_end_at(self._at, number))
+        with self._lock:
+            done(lib.forwarder_end_at(self._at, u64("number", number)))
 
     def _placed(self, call: Callable[..., int], source: int, number: int, timestamp: int) -> Placed | None:
         told = PlacedStruct()
-        code = call(self._at, source, number, timestamp, byref(told))
+        with self._lock:
+            code = call(self._at, u64("source", source), u64("number", number), u32("timestamp", timestamp),
+                        byref(told))
         if code == Code.NOTHING:
             return None
         done(code)
@@ -192,5 +241,6 @@ class Forwarder(Owner):
     def next(self) -> int:
         """The first number above all those that were given."""
         number = c_uint64()
-        done(lib.forwarder_next(self._at, byref(number)))
+        with self._lock:
+            done(lib.forwarder_next(self._at, byref(number)))
         return number.value

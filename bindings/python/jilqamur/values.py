@@ -4,9 +4,15 @@ from ctypes import byref
 from dataclasses import dataclass, fields
 from enum import IntEnum
 
-from .codes import Code, Refused, done
-from .library import (ExtensionIds, FormatStruct, Header, NamesStruct, PacketInfoStruct, RowStruct, UnitStruct,
-                      ValuesStruct, c_size_t, c_uint32, fetched, fetched_if, lib, text)
+from typing import NamedTuple
+
+from .checks import bytes_of, text_of, u16, u64
+from .codes import Code, Place, done, done_of
+from .library import c_size_t, c_uint32, fetched, fetched_if, lib
+from .structs import (ExtensionIds, FormatStruct, Header, NamesStruct, PacketInfoStruct, RowStruct, UnitStruct,
+                      ValuesStruct)
+
+new_tuple = tuple.__new__  # makes a named tuple in less time than its own class does
 
 MIN_HELD = 4096
 """The least number of packets that a stream may be opened to hold at most."""
@@ -29,10 +35,22 @@ EXTENSIONS = {
 """The URIs of header extensions, by the fields of `ExtensionIds`."""
 
 
+def text(name: str, given: object) -> tuple[bytes, int]:
+    """The bytes of a text, and how many there are."""
+    found = text_of(name, given)
+    return found, len(found)
+
+
+def data(name: str, given: object) -> tuple[bytes, int]:
+    """The same of an argument of bytes."""
+    found = bytes_of(name, given)
+    return found, len(found)
+
+
 def given(struct: object, name: str, value: object) -> None:
     """Puts a value that may be absent into a struct with a field that says whether it is there."""
-    setattr(struct, f"has_{name}", value is not None)
     if value is not None:
+        setattr(struct, f"has_{name}", True)
         setattr(struct, name, value)
 
 
@@ -53,6 +71,9 @@ class Row:
         for name in ("channels", "resend", "red"):
             given(told, name, getattr(self, name))
         return told
+
+    def place(self) -> Place:
+        return Place(codec=self.codec, payload_type=self.payload_type)
 
 
 @dataclass(frozen=True)
@@ -80,8 +101,7 @@ class Event:
     duration: int
 
 
-@dataclass(frozen=True)
-class Unit:
+class Unit(NamedTuple):
     """A video frame or an audio packet: its bytes, the widened numbers of its first and last datagram, its RTP
     timestamp, and what its codec tells of it."""
 
@@ -97,9 +117,9 @@ class Unit:
     @staticmethod
     def of(told: UnitStruct, data: bytes) -> "Unit":
         event = Event(told.event, told.event_end, told.event_volume, told.event_duration) if told.has_event else None
-        return Unit(data, told.first, told.last, told.time, told.is_keyframe,
-                    told.picture_id if told.has_picture_id else None,
-                    told.base_layer if told.has_base_layer else None, event)
+        return new_tuple(Unit, (data, told.first, told.last, told.time, told.is_keyframe,
+                                told.picture_id if told.has_picture_id else None,
+                                told.base_layer if told.has_base_layer else None, event))
 
 
 @dataclass(frozen=True)
@@ -120,14 +140,16 @@ class Values:
 
     def struct(self) -> ValuesStruct:
         told = ValuesStruct()
-        for field in fields(self):
-            given(told, field.name, getattr(self, field.name))
+        for name in VALUES:
+            given(told, name, getattr(self, name))
         return told
 
     @staticmethod
     def of(told: ValuesStruct) -> "Values":
-        return Values(**{field.name: getattr(told, field.name) for field in fields(Values)
-                         if getattr(told, f"has_{field.name}")})
+        return Values(**{name: getattr(told, name) for name in VALUES if getattr(told, f"has_{name}")})
+
+
+VALUES = tuple(field.name for field in fields(Values))
 
 
 @dataclass(frozen=True)
@@ -150,7 +172,7 @@ class Names:
 def read_header(datagram: bytes) -> Header:
     """The header in front of a datagram. `Refused`, UNREADABLE, if it doesn't begin with one."""
     header = Header()
-    done(lib.header_read(*text(datagram), byref(header)))
+    done(lib.header_read(*data("datagram", datagram), byref(header)))
     return header
 
 
@@ -163,14 +185,14 @@ def read_values(datagram: bytes, ids: ExtensionIds) -> tuple[Values, Names]:
     """The values of the header extensions of a datagram, read by these ids, and its names. `Refused`, OUT_OF_RANGE for
     an id above 16, or UNREADABLE."""
     values, names = ValuesStruct(), NamesStruct()
-    done(lib.header_values(*text(datagram), byref(ids), byref(values), byref(names)))
+    done(lib.header_values(*data("datagram", datagram), byref(ids), byref(values), byref(names)))
     return Values.of(values), Names.of(names)
 
 
 def payload_of(header: Header, behind: bytes) -> bytes:
     """The payload in the bytes that follow a header, without padding. `Refused`, DAMAGED."""
-    length = c_size_t()
-    done(lib.payload_unpad(header.has_padding, *text(behind), byref(length)))
+    length, behind = c_size_t(), bytes_of("behind", behind)
+    done(lib.payload_unpad(header.has_padding, behind, len(behind), byref(length)))
     return behind[:length.value]
 
 
@@ -190,7 +212,8 @@ def packet_info(codec: str, payload: bytes, marker: bool) -> PacketInfo:
     """What a packet of the codec of this name, with this payload and marker bit, says of its frame. `Refused`,
     OUT_OF_RANGE, for a name of no codec with a payload format."""
     told = PacketInfoStruct()
-    done(lib.payload_info(*text(codec), *text(payload), marker, byref(told)))
+    done(lib.payload_info(*text("codec", codec), *data("payload", payload), bool(marker), byref(told)),
+         Place(codec=codec))
     return PacketInfo(told.is_head, told.is_tail, told.shows_key_frame,
                       told.spatial_layer if told.has_spatial_layer else None,
                       told.temporal_layer if told.has_temporal_layer else None)
@@ -247,19 +270,18 @@ def faulty_line(session: str | bytes) -> FaultyLine | None:
     """The line at which a session text can't be read on: the first that fails if the text isn't read, or else the first
     of the rest that isn't read; None if the text is read to its end. `Refused`, NOT_TEXT."""
     number, fault = c_size_t(), c_uint32()
-    line = fetched_if(lib.faulty_line, *text(session), after=(byref(number), byref(fault)))
+    line = fetched_if(lib.faulty_line, *text("session", session), after=(byref(number), byref(fault)))
     return None if line is None else FaultyLine(number.value, line.decode(), LineFault(fault.value))
 
 
 def widen(previous: int, low: int) -> int:
     """The number nearest to the previous one with these low 16 bits, modulo 2^64."""
-    return lib.number_widen(previous, low)
+    return lib.number_widen(u64("previous", previous), u16("low", low))
 
 
-def is_taken(code: int) -> bool:
+def is_taken(code: int, stream: int | None = None) -> bool:
     """Whether a number was taken; it is raised if the call was refused for another reason than the number."""
     if code == Code.REFUSED:
         return False
-    if code != Code.OK:
-        raise Refused(code)
+    done_of(code, stream)
     return True
