@@ -49,35 +49,40 @@ type Remote struct {
 // of [ErrTextUnreadable], [ErrRestUnread], [ErrMidNotKept], [ErrMidTwice], [ErrSeveralBundles], [ErrOutsideBundle],
 // [ErrNothingLeft] and [ErrKeysAlone]; else what [End.Answer] returns.
 func (e *End) AnswerBrowser(offer string, requests ...SectionRequest) (string, error) {
+	owned, err := e.own().lock()
+	if err != nil {
+		return "", err
+	}
+	defer owned.mutex.Unlock()
 	for _, request := range requests {
-		if err := e.request(request); err != nil {
+		if err := gatherRequest(owned.handle, request); err != nil {
 			// An answer to no text is refused, and uses up what was gathered.
-			C.jilqamur_end_answer_browser(&e.handle, &noByte, 0)
+			C.jilqamur_end_answer_browser(owned.handle, &noByte, 0)
 			return "", err
 		}
 	}
 	at, size := placeOf(offer)
-	if err := done(C.jilqamur_end_answer_browser(&e.handle, at, size)); err != nil {
+	if err := done(C.jilqamur_end_answer_browser(owned.handle, at, size)); err != nil {
 		return "", err
 	}
-	return e.text()
+	return text(owned.handle)
 }
 
-func (e *End) request(request SectionRequest) error {
-	if err := e.repairs(request.Repairs); err != nil {
+func gatherRequest(end *C.jilqamur_end, request SectionRequest) error {
+	if err := gatherRepairs(end, request.Repairs); err != nil {
 		return err
 	}
 	ssrcs, count := placeOfNumbers(request.SSRCs)
 	sends, receives := C.bool(request.Direction.Sends()), C.bool(request.Direction.Receives())
-	return done(C.jilqamur_end_request(&e.handle, C.bool(!request.Reject), sends, receives, ssrcs, count))
+	return done(C.jilqamur_end_request(end, C.bool(!request.Reject), sends, receives, ssrcs, count))
 }
 
 // AcceptBrowser takes a browser's answer to the pending offer. It returns [ErrNotText], or the first that applies of
 // [ErrTextUnreadable], [ErrRestUnread], [ErrMidNotKept], [ErrMidTwice], [ErrNotCorresponding], [ErrSectionRejected],
 // [ErrSeveralBundles], [ErrOutsideBundle], [ErrNothingLeft] and [ErrKeysAlone]; else what [End.Accept] returns.
 func (e *End) AcceptBrowser(answer string) error {
-	at, size := placeOf(answer)
-	return done(C.jilqamur_end_accept_browser(&e.handle, at, size))
+	text, size := placeOf(answer)
+	return e.own().use(func(end *C.jilqamur_end) C.uint32_t { return C.jilqamur_end_accept_browser(end, text, size) })
 }
 
 // ForBrowser makes an offer's or an answer's text of this end one for the browser: what was taken out of the browser's
@@ -88,23 +93,33 @@ func (e *End) ForBrowser(own string, transport Transport) (string, error) {
 	if transport.Hash == "" {
 		transport.Hash = "sha-256"
 	}
-	text, textSize := placeOf(own)
+	owned, err := e.own().lock()
+	if err != nil {
+		return "", err
+	}
+	defer owned.mutex.Unlock()
+	given, givenSize := placeOf(own)
 	ufrag, ufragSize := placeOf(transport.Ufrag)
 	password, passwordSize := placeOf(transport.Password)
 	hash, hashSize := placeOf(transport.Hash)
 	digest, digestSize := place(transport.Digest)
-	answer := C.jilqamur_end_for_browser(&e.handle, text, textSize, C.uint8_t(transport.Setup), C.bool(transport.Lite),
-		ufrag, ufragSize, password, passwordSize, hash, hashSize, digest, digestSize)
+	answer := C.jilqamur_end_for_browser(owned.handle, given, givenSize, C.uint8_t(transport.Setup),
+		C.bool(transport.Lite), ufrag, ufragSize, password, passwordSize, hash, hashSize, digest, digestSize)
 	if err := done(answer); err != nil {
 		return "", err
 	}
-	return e.text()
+	return text(owned.handle)
 }
 
 // Remote is what the last text of a browser tells of its transport; without one nothing is told.
 func (e *End) Remote() (Remote, error) {
+	owned, err := e.own().lock()
+	if err != nil {
+		return Remote{}, err
+	}
+	defer owned.mutex.Unlock()
 	var told C.jilqamur_remote
-	if err := done(C.jilqamur_end_remote(&e.handle, &told)); err != nil {
+	if err := done(C.jilqamur_end_remote(owned.handle, &told)); err != nil {
 		return Remote{}, err
 	}
 	remote := Remote{
@@ -114,14 +129,13 @@ func (e *End) Remote() (Remote, error) {
 	}
 	texts := []*string{&remote.Ufrag, &remote.Password, &remote.Fingerprint}
 	for part, text := range texts {
-		var err error
-		if *text, err = e.remoteText(C.uint8_t(part)); err != nil {
+		if *text, err = remoteText(owned.handle, C.uint8_t(part)); err != nil {
 			return Remote{}, err
 		}
 	}
 	for k := C.size_t(0); k < told.candidates; k++ {
 		candidate, err := fetchedText(func(at *C.uint8_t, size C.size_t, needed *C.size_t) C.uint32_t {
-			return C.jilqamur_end_remote_candidate(&e.handle, k, at, size, needed)
+			return C.jilqamur_end_remote_candidate(owned.handle, k, at, size, needed)
 		})
 		if err != nil {
 			return Remote{}, err
@@ -132,9 +146,9 @@ func (e *End) Remote() (Remote, error) {
 }
 
 // remoteText is one of the texts, by its number in the header.
-func (e *End) remoteText(part C.uint8_t) (string, error) {
+func remoteText(end *C.jilqamur_end, part C.uint8_t) (string, error) {
 	text, err := fetchedText(func(at *C.uint8_t, size C.size_t, needed *C.size_t) C.uint32_t {
-		return C.jilqamur_end_remote_text(&e.handle, part, at, size, needed)
+		return C.jilqamur_end_remote_text(end, part, at, size, needed)
 	})
 	if err == ErrNothing {
 		err = nil

@@ -3,10 +3,7 @@ package jilqamur
 // #include "jilqamur.h"
 import "C"
 
-import (
-	"runtime"
-	"strings"
-)
+import "strings"
 
 // The least and the greatest number of packets that a receiving stream or a depacketizer may hold at most.
 const (
@@ -119,45 +116,86 @@ type Config struct {
 }
 
 // An End is an endpoint of a session: what it offers, what it agreed on with the other end, and its streams.
-type End struct {
-	_      noCopy
-	handle C.jilqamur_end
+type End struct{ owner owner[C.jilqamur_end] }
+
+func (e *End) own() *owner[C.jilqamur_end] {
+	if e == nil {
+		return nil
+	}
+	return &e.owner
 }
 
 // NewEnd makes an end that has agreed on nothing. It returns [ErrOutOfRange] for a clock rate of 0 or an id that isn't
 // 1 to 16, or [ErrNotText]; else the first that applies of [ErrRowNotPlain], [ErrTypesNotDistinct] and
-// [ErrNotWritable]; or [ErrMemory].
+// [ErrNotWritable]; or [ErrMemory]. The error names the first row or extension for which the end is refused.
 func NewEnd(config Config) (*End, error) {
-	e := &End{}
-	if err := done(C.jilqamur_end_open(&e.handle)); err != nil {
-		return nil, err
+	e, err := opened(config)
+	if code, isCode := err.(Error); isCode {
+		if place, isFound := config.culprit(code); isFound {
+			err = at(err, func() Place { return place })
+		}
 	}
-	if err := e.make(config); err != nil {
-		e.Close()
-		return nil, err
-	}
-	runtime.SetFinalizer(e, (*End).Close)
-	return e, nil
+	return e, err
 }
+
+func opened(config Config) (*End, error) {
+	e := &End{}
+	err := e.owner.open(func(end *C.jilqamur_end) C.uint32_t { return C.jilqamur_end_open(end) },
+		func(end *C.jilqamur_end) C.uint32_t { return C.jilqamur_end_close(end) })
+	if err == nil {
+		if err = e.make(config); err == nil {
+			return e, nil
+		}
+		e.Close()
+	}
+	return nil, err
+}
+
+// culprit is the first row, or else the first extension, with which an end is refused so.
+func (c Config) culprit(code Error) (Place, bool) {
+	isRefused := func(rows []Row, extensions []Extension) bool {
+		e, err := opened(Config{Rows: rows, Extensions: extensions})
+		if err == nil {
+			e.Close()
+		}
+		return err == code
+	}
+	for k, row := range c.Rows {
+		if isRefused(c.Rows[:k+1], nil) {
+			return row.place(), true
+		}
+	}
+	for k, extension := range c.Extensions {
+		if isRefused(nil, c.Extensions[:k+1]) {
+			return extension.place(), true
+		}
+	}
+	return Place{}, false
+}
+
+func (r Row) place() Place { return Place{Codec: r.Codec, PayloadType: Some(r.PayloadType)} }
+
+func (x Extension) place() Place { return Place{ID: Some(x.ID), URI: x.URI} }
 
 func (e *End) make(config Config) error {
 	for _, row := range config.Rows {
 		if err := e.row(row); err != nil {
-			return err
+			return at(err, row.place)
 		}
 	}
 	if config.DefaultRows {
-		if err := done(C.jilqamur_end_default_rows(&e.handle)); err != nil {
+		err := e.own().use(func(end *C.jilqamur_end) C.uint32_t { return C.jilqamur_end_default_rows(end) })
+		if err != nil {
 			return err
 		}
 	}
 	for _, extension := range config.Extensions {
-		at, size := placeOf(extension.URI)
-		if err := done(C.jilqamur_end_extension(&e.handle, C.uint8_t(extension.ID), at, size)); err != nil {
-			return err
+		if err := e.extension(extension); err != nil {
+			return at(err, extension.place)
 		}
 	}
-	return done(C.jilqamur_end_make(&e.handle, C.uint64_t(config.Session)))
+	session := C.uint64_t(config.Session)
+	return e.own().use(func(end *C.jilqamur_end) C.uint32_t { return C.jilqamur_end_make(end, session) })
 }
 
 func (e *End) row(row Row) error {
@@ -169,11 +207,18 @@ func (e *End) row(row Row) error {
 	}
 	codec, codecSize := placeOf(row.Codec)
 	format, formatSize := placeOf(row.Format)
-	return done(C.jilqamur_end_row(&e.handle, &given, codec, codecSize, format, formatSize))
+	return e.own().use(func(end *C.jilqamur_end) C.uint32_t {
+		return C.jilqamur_end_row(end, &given, codec, codecSize, format, formatSize)
+	})
 }
 
-// Close frees all that the end holds. It returns [ErrClosed] if it was closed.
-func (e *End) Close() error {
-	runtime.SetFinalizer(e, nil)
-	return done(C.jilqamur_end_close(&e.handle))
+func (e *End) extension(extension Extension) error {
+	uri, size := placeOf(extension.URI)
+	return e.own().use(func(end *C.jilqamur_end) C.uint32_t {
+		return C.jilqamur_end_extension(end, C.uint8_t(extension.ID), uri, size)
+	})
 }
+
+// Close frees all that the end holds, once a call of another goroutine has ended. It returns [ErrClosed] if it was
+// closed.
+func (e *End) Close() error { return e.own().close() }

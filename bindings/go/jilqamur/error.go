@@ -3,10 +3,15 @@ package jilqamur
 // #include "jilqamur.h"
 import "C"
 
-import "strconv"
+import (
+	"strconv"
+	"strings"
+	"unicode/utf8"
+)
 
 // An Error is why a call is refused: a code of jilqamur.h, which says for each call which ones it has and in
-// which order they are tested. Compare it with the constants below, directly or by [errors.Is].
+// which order they are tested. Compare it with the constants below by [errors.Is], since what a call returns may be a
+// [Refusal], which tells the place too.
 type Error uint32
 
 // The codes.
@@ -102,6 +107,100 @@ func (e Error) Text() string { return C.GoString(C.jilqamur_error_text(C.uint32_
 
 // Error is the text and the name.
 func (e Error) Error() string { return "jilqamur: " + e.Text() + " (" + e.Name() + ")" }
+
+// A Place is a row, a header extension, sections, a stream that was to be opened or is open, or a codec.
+type Place struct {
+	Codec       string           // of a row, or a codec by itself
+	PayloadType Optional[uint8]  // of a row, or of a stream that was to be opened
+	ID          Optional[uint8]  // of a header extension
+	URI         string           // of a header extension
+	Mids        []string         // of sections, one of which it is about
+	SSRC        Optional[uint32] // of a stream that was to be opened
+	Stream      Optional[int]    // the number of a stream
+}
+
+// String is the place in words.
+func (p Place) String() string {
+	number := func(n uint64) string { return strconv.FormatUint(n, 10) }
+	switch {
+	case p.Codec != "" && p.PayloadType.Valid:
+		return "row " + p.Codec + " at type " + number(uint64(p.PayloadType.Value))
+	case p.ID.Valid:
+		return "extension " + p.URI + " at id " + number(uint64(p.ID.Value))
+	case p.Stream.Valid:
+		return "stream " + strconv.Itoa(p.Stream.Value)
+	case p.SSRC.Valid:
+		return "section " + strings.Join(p.Mids, ", ") + ", SSRC " + number(uint64(p.SSRC.Value)) + ", type " +
+			number(uint64(p.PayloadType.Value))
+	case len(p.Mids) == 1:
+		return "section " + p.Mids[0]
+	case len(p.Mids) > 1:
+		return "sections " + strings.Join(p.Mids, ", ")
+	}
+	return "codec " + p.Codec
+}
+
+// A Refusal is why a call is refused, and what about. [errors.Is] compares it with the codes.
+type Refusal struct {
+	Code  Error
+	Place Place
+}
+
+// Error is the text and the place, and the code's name.
+func (r *Refusal) Error() string {
+	return "jilqamur: " + r.Code.Text() + " (" + r.Place.String() + ", " + r.Code.Name() + ")"
+}
+
+// Unwrap is the code.
+func (r *Refusal) Unwrap() error { return r.Code }
+
+// at is an error with its place, unless it is about the whole end or its text.
+func at(err error, place func() Place) error {
+	code, isCode := err.(Error)
+	if !isCode {
+		return err
+	}
+	switch code {
+	case ErrMemory, ErrClosed, ErrNotMade, ErrOutOfTurn, ErrTextUnreadable, ErrRestUnread:
+		return err
+	}
+	return &Refusal{code, place()}
+}
+
+// ofStream is the same of a stream, by its number.
+func ofStream(err error, stream int) error {
+	return at(err, func() Place { return Place{Stream: Some(stream)} })
+}
+
+// ofOpening is the same of a stream that was to be opened.
+func ofOpening(err error, mid string, ssrc uint32, payloadType uint8) error {
+	return at(err, func() Place {
+		return Place{Mids: []string{mid}, SSRC: Some(ssrc), PayloadType: Some(payloadType)}
+	})
+}
+
+// ofCodec is the same of a codec.
+func ofCodec(err error, codec string) error {
+	return at(err, func() Place { return Place{Codec: codec} })
+}
+
+// keepsMid tells whether a mid is kept as it is: of at most 16 bytes, each a letter, a digit or _. It returns
+// [ErrMidNotKept], or [ErrNotText].
+func keepsMid(mid string) error {
+	if !utf8.ValidString(mid) {
+		return ErrNotText
+	}
+	if len(mid) > 16 {
+		return ErrMidNotKept
+	}
+	for k := 0; k < len(mid); k++ {
+		c := mid[k]
+		if !(c == '_' || '0' <= c && c <= '9' || 'a' <= c && c <= 'z' || 'A' <= c && c <= 'Z') {
+			return ErrMidNotKept
+		}
+	}
+	return nil
+}
 
 // done makes an error of what a call answers.
 func done(answer C.uint32_t) error {

@@ -27,70 +27,74 @@ type AgreedSection struct {
 }
 
 // Offer is the text of an offer of these sections, which is then pending (RFC 3264, section 5). It returns
-// [ErrNotText], [ErrOutOfRange] if the repairs of a section aren't sound, or the first that applies of [ErrOutOfTurn],
+// [ErrNotText], [ErrMidNotKept] for a mid that has more than 16 bytes or other signs than letters, digits and _,
+// [ErrOutOfRange] if the repairs of a section aren't sound, or the first that applies of [ErrOutOfTurn],
 // [ErrNotCorresponding], [ErrNoCommonRow] and [ErrNotWritable]; or [ErrMemory].
 func (e *End) Offer(sections ...Section) (string, error) {
-	if err := e.gather(sections); err != nil {
-		return "", err
-	}
-	if err := done(C.jilqamur_end_offer(&e.handle)); err != nil {
-		return "", err
-	}
-	return e.text()
+	return e.exchange(sections, func(end *C.jilqamur_end) C.uint32_t { return C.jilqamur_end_offer(end) })
 }
 
 // Answer is the text of the answer to an offer by these sections, which are then agreed (RFC 3264, section 6). It
-// returns [ErrNotText], [ErrOutOfRange] if the repairs of a section aren't sound, or the first that applies of
-// [ErrTextUnreadable], [ErrOutOfTurn], [ErrNotMedia], [ErrNotCorresponding], [ErrRound], [ErrNoCommonRow] and
-// [ErrNotWritable]; or [ErrMemory].
+// returns [ErrNotText] or [ErrMidNotKept], [ErrOutOfRange] if the repairs of a section aren't sound, or the first that
+// applies of [ErrTextUnreadable], [ErrOutOfTurn], [ErrNotMedia], [ErrNotCorresponding], [ErrRound], [ErrNoCommonRow]
+// and [ErrNotWritable]; or [ErrMemory].
 func (e *End) Answer(offer string, sections ...Section) (string, error) {
-	if err := e.gather(sections); err != nil {
-		return "", err
-	}
-	at, size := placeOf(offer)
-	if err := done(C.jilqamur_end_answer(&e.handle, at, size)); err != nil {
-		return "", err
-	}
-	return e.text()
+	text, size := placeOf(offer)
+	return e.exchange(sections, func(end *C.jilqamur_end) C.uint32_t { return C.jilqamur_end_answer(end, text, size) })
 }
 
 // Accept takes the answer to the pending offer, which is then agreed (RFC 3264, section 7). It returns [ErrNotText], or
 // the first that applies of [ErrTextUnreadable], [ErrOutOfTurn], [ErrNotMedia], [ErrNotCorresponding], [ErrRound] and
 // [ErrNoCommonRow]; or [ErrMemory].
 func (e *End) Accept(answer string) error {
-	at, size := placeOf(answer)
-	return done(C.jilqamur_end_accept(&e.handle, at, size))
+	text, size := placeOf(answer)
+	return e.own().use(func(end *C.jilqamur_end) C.uint32_t { return C.jilqamur_end_accept(end, text, size) })
 }
 
 // Withdraw gives a pending offer up. It returns [ErrNothing] if none is pending.
-func (e *End) Withdraw() error { return done(C.jilqamur_end_withdraw(&e.handle)) }
+func (e *End) Withdraw() error {
+	return e.own().use(func(end *C.jilqamur_end) C.uint32_t { return C.jilqamur_end_withdraw(end) })
+}
 
-// gather puts sections for the next text; if one is refused none is left.
-func (e *End) gather(sections []Section) error {
+// exchange is the text of an offer or an answer of these sections; if one of them is refused none is left.
+func (e *End) exchange(sections []Section, call func(*C.jilqamur_end) C.uint32_t) (string, error) {
+	place := func() (p Place) {
+		for _, section := range sections {
+			p.Mids = append(p.Mids, section.Mid)
+		}
+		return p
+	}
 	for _, section := range sections {
-		if err := e.section(section); err != nil {
-			// An answer to no text is refused, and uses up what was gathered.
-			C.jilqamur_end_answer(&e.handle, &noByte, 0)
-			return err
+		if err := keepsMid(section.Mid); err != nil {
+			return "", at(err, place)
 		}
 	}
-	return nil
-}
-
-func (e *End) section(section Section) error {
-	if err := e.repairs(section.Repairs); err != nil {
-		return err
+	owned, err := e.own().lock()
+	if err != nil {
+		return "", err
 	}
-	mid, midSize := placeOf(section.Mid)
-	ssrcs, count := placeOfNumbers(section.SSRCs)
-	sends, receives := C.bool(section.Direction.Sends()), C.bool(section.Direction.Receives())
-	return done(C.jilqamur_end_section(&e.handle, mid, midSize, C.bool(section.Kind == Video), sends, receives, ssrcs,
-		count))
+	defer owned.mutex.Unlock()
+	if err := gather(owned.handle, sections); err != nil {
+		// An answer to no text is refused, and uses up what was gathered.
+		C.jilqamur_end_answer(owned.handle, &noByte, 0)
+		return "", at(err, place)
+	}
+	if err := done(call(owned.handle)); err != nil {
+		return "", at(err, place)
+	}
+	return text(owned.handle)
 }
 
-func (e *End) repairs(repairs []Repair) error {
-	for _, repair := range repairs {
-		answer := C.jilqamur_end_section_repair(&e.handle, C.uint32_t(repair.SSRC), C.uint32_t(repair.By))
+// gather puts sections for the next text.
+func gather(end *C.jilqamur_end, sections []Section) error {
+	for _, section := range sections {
+		if err := gatherRepairs(end, section.Repairs); err != nil {
+			return err
+		}
+		mid, midSize := placeOf(section.Mid)
+		ssrcs, count := placeOfNumbers(section.SSRCs)
+		sends, receives := C.bool(section.Direction.Sends()), C.bool(section.Direction.Receives())
+		answer := C.jilqamur_end_section(end, mid, midSize, C.bool(section.Kind == Video), sends, receives, ssrcs, count)
 		if err := done(answer); err != nil {
 			return err
 		}
@@ -98,17 +102,32 @@ func (e *End) repairs(repairs []Repair) error {
 	return nil
 }
 
-func (e *End) text() (string, error) {
+func gatherRepairs(end *C.jilqamur_end, repairs []Repair) error {
+	for _, repair := range repairs {
+		answer := C.jilqamur_end_section_repair(end, C.uint32_t(repair.SSRC), C.uint32_t(repair.By))
+		if err := done(answer); err != nil {
+			return err
+		}
+	}
+	return nil
+}
+
+func text(end *C.jilqamur_end) (string, error) {
 	return fetchedText(func(at *C.uint8_t, size C.size_t, needed *C.size_t) C.uint32_t {
-		return C.jilqamur_end_text(&e.handle, at, size, needed)
+		return C.jilqamur_end_text(end, at, size, needed)
 	})
 }
 
 // AgreedSections are the sections that were agreed on last, in the order of the texts.
 func (e *End) AgreedSections() ([]AgreedSection, error) {
+	owned, err := e.own().lock()
+	if err != nil {
+		return nil, err
+	}
+	defer owned.mutex.Unlock()
 	var sections []AgreedSection
 	for index := C.size_t(0); ; index++ {
-		section, err := e.agreedSection(index)
+		section, err := agreedSection(owned.handle, index)
 		if err == ErrNothing {
 			return sections, nil
 		}
@@ -119,10 +138,10 @@ func (e *End) AgreedSections() ([]AgreedSection, error) {
 	}
 }
 
-func (e *End) agreedSection(index C.size_t) (AgreedSection, error) {
+func agreedSection(end *C.jilqamur_end, index C.size_t) (AgreedSection, error) {
 	var told C.jilqamur_section
 	mid, err := fetchedText(func(at *C.uint8_t, size C.size_t, needed *C.size_t) C.uint32_t {
-		return C.jilqamur_end_agreed_section(&e.handle, index, at, size, needed, &told)
+		return C.jilqamur_end_agreed_section(end, index, at, size, needed, &told)
 	})
 	if err != nil {
 		return AgreedSection{}, err
@@ -132,7 +151,7 @@ func (e *End) agreedSection(index C.size_t) (AgreedSection, error) {
 		section.Kind = Video
 	}
 	for k := C.size_t(0); k < told.rows; k++ {
-		row, err := e.agreedRow(index, k)
+		row, err := agreedRow(end, index, k)
 		if err != nil {
 			return AgreedSection{}, err
 		}
@@ -140,7 +159,7 @@ func (e *End) agreedSection(index C.size_t) (AgreedSection, error) {
 	}
 	for k := C.size_t(0); k < told.ssrcs; k++ {
 		var ssrc C.uint32_t
-		if err := done(C.jilqamur_end_agreed_ssrc(&e.handle, index, k, &ssrc)); err != nil {
+		if err := done(C.jilqamur_end_agreed_ssrc(end, index, k, &ssrc)); err != nil {
 			return AgreedSection{}, err
 		}
 		section.SSRCs = append(section.SSRCs, uint32(ssrc))
@@ -148,10 +167,10 @@ func (e *End) agreedSection(index C.size_t) (AgreedSection, error) {
 	return section, nil
 }
 
-func (e *End) agreedRow(section, index C.size_t) (Row, error) {
+func agreedRow(end *C.jilqamur_end, section, index C.size_t) (Row, error) {
 	var told C.jilqamur_row
 	codec, err := fetchedText(func(at *C.uint8_t, size C.size_t, needed *C.size_t) C.uint32_t {
-		return C.jilqamur_end_agreed_row(&e.handle, section, index, at, size, needed, &told)
+		return C.jilqamur_end_agreed_row(end, section, index, at, size, needed, &told)
 	})
 	return Row{
 		PayloadType: uint8(told.payload_type), Codec: codec, ClockRate: uint32(told.clock_rate),

@@ -1,9 +1,7 @@
 package jilqamur
 
-// #include "jilqamur.h"
+// #include "calls.h"
 import "C"
-
-import "runtime"
 
 // An Arrival is how a datagram arrives at a receiving stream. A retransmission tells what it wraps.
 type Arrival struct {
@@ -18,16 +16,20 @@ type Arrival struct {
 // Arrival tells how a datagram arrives at the receiving stream that would take it, without taking it. It returns the
 // first that applies of [ErrUnreadable], [ErrForeign] and [ErrDamaged].
 func (e *End) Arrival(datagram []byte) (Arrival, error) {
-	var stream C.size_t
+	owned, err := e.own().lock()
+	if err != nil {
+		return Arrival{}, err
+	}
+	defer owned.mutex.Unlock()
 	var told C.jilqamur_arrival
-	var values C.jilqamur_values
+	stream, values := &owned.left.told.stream, &owned.left.values
 	at, size := place(datagram)
-	if err := done(C.jilqamur_end_arrival(&e.handle, at, size, &stream, &told, &values)); err != nil {
+	if err := done(C.jilqamur_end_arrival(owned.handle, at, size, stream, &told, values)); err != nil {
 		return Arrival{}, err
 	}
 	return Arrival{
-		Stream: int(stream), Low: uint16(told.low), Timestamp: uint32(told.timestamp), Marker: bool(told.marker),
-		Payload: datagram[told.start:told.end], Values: valuesOf(&values),
+		Stream: int(*stream), Low: uint16(told.low), Timestamp: uint32(told.timestamp), Marker: bool(told.marker),
+		Payload: datagram[told.start:told.end], Values: valuesOf(values),
 	}, nil
 }
 
@@ -36,7 +38,9 @@ func (e *End) Arrival(datagram []byte) (Arrival, error) {
 // the greatest.
 func (e *End) TakeNumber(stream int, low uint16) (uint64, error) {
 	var number C.uint64_t
-	err := done(C.jilqamur_end_take_number(&e.handle, C.size_t(stream), C.uint16_t(low), &number))
+	err := e.of(stream, func(end *C.jilqamur_end, of C.size_t) C.uint32_t {
+		return C.jilqamur_end_take_number(end, of, C.uint16_t(low), &number)
+	})
 	return uint64(number), err
 }
 
@@ -53,15 +57,24 @@ type Forwarded struct {
 // stream's samples are numbered above them. It returns [ErrNotText], [ErrNoStream], or the first that applies of
 // [ErrAddsRedundancy], [ErrNumberTooLarge], [ErrNoPayload] and [ErrLimitTooSmall]; or [ErrMemory].
 func (e *End) SendPacket(stream int, packet Forwarded) ([]byte, error) {
-	given := packet.Values.given()
-	mid, midSize := placeOf(packet.Mid)
-	payload, size := place(packet.Payload)
-	answer := C.jilqamur_end_send_packet(&e.handle, C.size_t(stream), C.uint64_t(packet.Number),
-		C.uint32_t(packet.Timestamp), C.bool(packet.Marker), &given, mid, midSize, payload, size)
-	if err := done(answer); err != nil {
+	if err := keepsMid(packet.Mid); err != nil {
+		return nil, at(err, func() Place { return Place{Mids: []string{packet.Mid}} })
+	}
+	owned, err := e.own().lock()
+	if err != nil {
 		return nil, err
 	}
-	return e.datagram(0)
+	defer owned.mutex.Unlock()
+	l := &owned.left
+	packet.Values.into(&l.values)
+	mid, midSize := placeOf(packet.Mid)
+	payload, size := place(packet.Payload)
+	answer := C.jilqamur_end_send_packet(owned.handle, C.size_t(stream), C.uint64_t(packet.Number),
+		C.uint32_t(packet.Timestamp), C.bool(packet.Marker), &l.values, mid, midSize, payload, size)
+	if err := done(answer); err != nil {
+		return nil, ofStream(err, stream)
+	}
+	return datagramOf(owned)
 }
 
 // A Placed is the number and timestamp under which a packet is sent on.
@@ -73,66 +86,81 @@ type Placed struct {
 // A Forwarder numbers and times the packets of several sources as those of one stream: the packets of a source keep
 // their distances, and each piece of a source begins above the numbers that were given before. Packets that come late
 // are sent on where they belong, as long as the last 64 pieces are kept. A source is any number that its user gives it.
-type Forwarder struct {
-	_      noCopy
-	handle C.jilqamur_forwarder
+type Forwarder struct{ owner owner[C.jilqamur_forwarder] }
+
+func (f *Forwarder) own() *owner[C.jilqamur_forwarder] {
+	if f == nil {
+		return nil
+	}
+	return &f.owner
 }
 
 // NewForwarder opens a forwarder that sends nothing on, and whose first packet will get this number.
 func NewForwarder(first uint64) (*Forwarder, error) {
 	f := &Forwarder{}
-	if err := done(C.jilqamur_forwarder_open(&f.handle, C.uint64_t(first))); err != nil {
+	err := f.owner.open(func(forwarder *C.jilqamur_forwarder) C.uint32_t {
+		return C.jilqamur_forwarder_open(forwarder, C.uint64_t(first))
+	}, func(forwarder *C.jilqamur_forwarder) C.uint32_t { return C.jilqamur_forwarder_close(forwarder) })
+	if err != nil {
 		return nil, err
 	}
-	runtime.SetFinalizer(f, (*Forwarder).Close)
 	return f, nil
 }
 
 // Switch goes over to a source, from its packet of this number and timestamp on, which gets the timestamp at and the
 // next number. Call it between two frames of the source before.
 func (f *Forwarder) Switch(source, number uint64, timestamp, at uint32) error {
-	return done(C.jilqamur_forwarder_switch(&f.handle, C.uint64_t(source), C.uint64_t(number), C.uint32_t(timestamp),
-		C.uint32_t(at)))
+	return f.own().use(func(forwarder *C.jilqamur_forwarder) C.uint32_t {
+		return C.jilqamur_forwarder_switch(forwarder, C.uint64_t(source), C.uint64_t(number), C.uint32_t(timestamp),
+			C.uint32_t(at))
+	})
 }
 
 // SkipTo leaves out what the last source sends before the packet of this number, which gets the next number; timestamps
 // stay those of the source's clock. Before the first switch it does nothing.
 func (f *Forwarder) SkipTo(number uint64) error {
-	return done(C.jilqamur_forwarder_skip_to(&f.handle, C.uint64_t(number)))
+	return f.own().use(func(forwarder *C.jilqamur_forwarder) C.uint32_t {
+		return C.jilqamur_forwarder_skip_to(forwarder, C.uint64_t(number))
+	})
 }
 
 // EndAt says that what is sent on of the last source ends before its packet of this number: the next piece begins where
 // that packet would be, and packets before it may still come.
 func (f *Forwarder) EndAt(number uint64) error {
-	return done(C.jilqamur_forwarder_end_at(&f.handle, C.uint64_t(number)))
+	return f.own().use(func(forwarder *C.jilqamur_forwarder) C.uint32_t {
+		return C.jilqamur_forwarder_end_at(forwarder, C.uint64_t(number))
+	})
 }
 
 // Place is the number and timestamp under which a source's packet of these is sent on. It returns [ErrNothing] if the
 // packet isn't sent on.
 func (f *Forwarder) Place(source, number uint64, timestamp uint32) (Placed, error) {
 	var placed C.jilqamur_placed
-	err := done(C.jilqamur_forwarder_place(&f.handle, C.uint64_t(source), C.uint64_t(number), C.uint32_t(timestamp),
-		&placed))
+	err := f.own().use(func(forwarder *C.jilqamur_forwarder) C.uint32_t {
+		return C.jilqamur_forwarder_place(forwarder, C.uint64_t(source), C.uint64_t(number), C.uint32_t(timestamp),
+			&placed)
+	})
 	return Placed{uint64(placed.number), uint32(placed.timestamp)}, err
 }
 
 // Forward is the same, and the number is given: the next piece begins above it.
 func (f *Forwarder) Forward(source, number uint64, timestamp uint32) (Placed, error) {
 	var placed C.jilqamur_placed
-	err := done(C.jilqamur_forwarder_forward(&f.handle, C.uint64_t(source), C.uint64_t(number), C.uint32_t(timestamp),
-		&placed))
+	err := f.own().use(func(forwarder *C.jilqamur_forwarder) C.uint32_t {
+		return C.jilqamur_forwarder_forward(forwarder, C.uint64_t(source), C.uint64_t(number), C.uint32_t(timestamp),
+			&placed)
+	})
 	return Placed{uint64(placed.number), uint32(placed.timestamp)}, err
 }
 
 // Next is the first number above all those that were given.
 func (f *Forwarder) Next() (uint64, error) {
 	var next C.uint64_t
-	err := done(C.jilqamur_forwarder_next(&f.handle, &next))
+	err := f.own().use(func(forwarder *C.jilqamur_forwarder) C.uint32_t {
+		return C.jilqamur_forwarder_next(forwarder, &next)
+	})
 	return uint64(next), err
 }
 
-// Close frees the forwarder. It returns [ErrClosed] if it was closed.
-func (f *Forwarder) Close() error {
-	runtime.SetFinalizer(f, nil)
-	return done(C.jilqamur_forwarder_close(&f.handle))
-}
+// Close frees the forwarder, once a call of another goroutine has ended. It returns [ErrClosed] if it was closed.
+func (f *Forwarder) Close() error { return f.own().close() }

@@ -3,8 +3,6 @@ package jilqamur
 // #include "jilqamur.h"
 import "C"
 
-import "runtime"
-
 // A Header is the header of an RTP packet (RFC 3550, section 5.1), without the values of its extensions.
 type Header struct {
 	HasPadding     bool     // whether padding follows the payload
@@ -71,32 +69,41 @@ func Widen(previous uint64, low uint16) uint64 {
 }
 
 // A Window is the replay window of a stream (RFC 3711, section 3.3.2, over widened numbers).
-type Window struct {
-	_      noCopy
-	handle C.jilqamur_window
+type Window struct{ owner owner[C.jilqamur_window] }
+
+func (w *Window) own() *owner[C.jilqamur_window] {
+	if w == nil {
+		return nil
+	}
+	return &w.owner
 }
 
 // NewWindow opens a window that has seen no number.
 func NewWindow() (*Window, error) {
 	w := &Window{}
-	if err := done(C.jilqamur_window_open(&w.handle)); err != nil {
+	err := w.owner.open(func(window *C.jilqamur_window) C.uint32_t { return C.jilqamur_window_open(window) },
+		func(window *C.jilqamur_window) C.uint32_t { return C.jilqamur_window_close(window) })
+	if err != nil {
 		return nil, err
 	}
-	runtime.SetFinalizer(w, (*Window).Close)
 	return w, nil
 }
 
 // Receive records the widened number of a datagram, and returns it. It returns [ErrUnreadable], or [ErrRefused] if the
 // number came before, or is 1,024 or more below the greatest; the window is then unchanged.
 func (w *Window) Receive(datagram []byte) (uint64, error) {
-	var number C.uint64_t
+	owned, err := w.own().lock()
+	if err != nil {
+		return 0, err
+	}
+	defer owned.mutex.Unlock()
 	at, size := place(datagram)
-	err := done(C.jilqamur_window_receive(&w.handle, at, size, &number))
-	return uint64(number), err
+	number := &owned.left.told.number
+	if err := done(C.jilqamur_window_receive(owned.handle, at, size, number)); err != nil {
+		return 0, err
+	}
+	return uint64(*number), nil
 }
 
-// Close frees the window. It returns [ErrClosed] if it was closed.
-func (w *Window) Close() error {
-	runtime.SetFinalizer(w, nil)
-	return done(C.jilqamur_window_close(&w.handle))
-}
+// Close frees the window, once a call of another goroutine has ended. It returns [ErrClosed] if it was closed.
+func (w *Window) Close() error { return w.own().close() }

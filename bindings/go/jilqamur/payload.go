@@ -1,9 +1,7 @@
 package jilqamur
 
-// #include "jilqamur.h"
+// #include "calls.h"
 import "C"
-
-import "runtime"
 
 // A Format is how payloads are read and written, beside their codec.
 type Format struct {
@@ -33,9 +31,13 @@ type Packet struct {
 }
 
 // A Packetizer cuts samples of a codec into payloads.
-type Packetizer struct {
-	_      noCopy
-	handle C.jilqamur_packetizer
+type Packetizer struct{ owner owner[C.jilqamur_packetizer] }
+
+func (p *Packetizer) own() *owner[C.jilqamur_packetizer] {
+	if p == nil {
+		return nil
+	}
+	return &p.owner
 }
 
 // NewPacketizer opens a packetizer of a codec of the names of [Row], in any case. It returns [ErrOutOfRange] for a
@@ -47,29 +49,36 @@ func NewPacketizer(codec string, format Format, params PacketizerParams) (*Packe
 		for_browsers: C.bool(params.ForBrowsers),
 	}
 	name, size := placeOf(codec)
-	if err := done(C.jilqamur_packetizer_open(&p.handle, &given, &of, name, size)); err != nil {
-		return nil, err
+	err := p.owner.open(func(packetizer *C.jilqamur_packetizer) C.uint32_t {
+		return C.jilqamur_packetizer_open(packetizer, &given, &of, name, size)
+	}, func(packetizer *C.jilqamur_packetizer) C.uint32_t { return C.jilqamur_packetizer_close(packetizer) })
+	if err != nil {
+		return nil, ofCodec(err, codec)
 	}
-	runtime.SetFinalizer(p, (*Packetizer).Close)
 	return p, nil
 }
 
-// Packetize cuts a sample into payloads of at most mtu bytes. It returns one of [ErrPacketTooShort] to
-// [ErrAMRWBCorrupted] if the codec refuses the sample, or [ErrMemory].
+// Packetize cuts a sample into payloads of at most mtu bytes. It returns [ErrOutOfRange] for an mtu below 1, one of
+// [ErrPacketTooShort] to [ErrAMRWBCorrupted] if the codec refuses the sample, or [ErrMemory].
 func (p *Packetizer) Packetize(mtu int, sample []byte) ([]Packet, error) {
-	if !areSizes(mtu) {
+	owned, err := p.own().lock()
+	if err != nil {
+		return nil, err
+	}
+	defer owned.mutex.Unlock()
+	if mtu < 1 {
 		return nil, ErrOutOfRange
 	}
 	var count C.size_t
 	at, size := place(sample)
-	if err := done(C.jilqamur_packetizer_packetize(&p.handle, C.size_t(mtu), at, size, &count)); err != nil {
+	if err := done(C.jilqamur_packetizer_packetize(owned.handle, C.size_t(mtu), at, size, &count)); err != nil {
 		return nil, err
 	}
 	packets := make([]Packet, count)
+	var marker C.bool
 	for k := range packets {
-		var marker C.bool
-		payload, err := fetched(guess, func(at *C.uint8_t, size C.size_t, needed *C.size_t) C.uint32_t {
-			return C.jilqamur_packetizer_packet(&p.handle, C.size_t(k), at, size, needed, &marker)
+		payload, err := owned.left.piece(func(at *C.uint8_t, size C.size_t, needed *C.size_t) C.uint32_t {
+			return C.jilqamur_packetizer_packet(owned.handle, C.size_t(k), at, size, needed, &marker)
 		})
 		if err != nil {
 			return nil, err
@@ -79,16 +88,19 @@ func (p *Packetizer) Packetize(mtu int, sample []byte) ([]Packet, error) {
 	return packets, nil
 }
 
-// Close frees the packetizer. It returns [ErrClosed] if it was closed.
-func (p *Packetizer) Close() error {
-	runtime.SetFinalizer(p, nil)
-	return done(C.jilqamur_packetizer_close(&p.handle))
-}
+// Close frees the packetizer, once a call of another goroutine has ended. It returns [ErrClosed] if it was closed.
+func (p *Packetizer) Close() error { return p.own().close() }
 
 // A Depacketizer makes units of payloads of a codec, after a buffer that puts packets in order.
 type Depacketizer struct {
-	_      noCopy
-	handle C.jilqamur_depacketizer
+	owner owner[C.jilqamur_depacketizer]
+}
+
+func (d *Depacketizer) own() *owner[C.jilqamur_depacketizer] {
+	if d == nil {
+		return nil
+	}
+	return &d.owner
 }
 
 // NewDepacketizer opens a depacketizer of a codec of the names of [Row], in any case. It returns [ErrOutOfRange] for
@@ -100,10 +112,14 @@ func NewDepacketizer(codec string, format Format, params ReceiverParams) (*Depac
 	}
 	d, of := &Depacketizer{}, format.given()
 	name, size := placeOf(codec)
-	if err := done(C.jilqamur_depacketizer_open(&d.handle, &of, name, size, holdBack, held)); err != nil {
-		return nil, err
+	err = d.owner.open(func(depacketizer *C.jilqamur_depacketizer) C.uint32_t {
+		return C.jilqamur_depacketizer_open(depacketizer, &of, name, size, holdBack, held)
+	}, func(depacketizer *C.jilqamur_depacketizer) C.uint32_t {
+		return C.jilqamur_depacketizer_close(depacketizer)
+	})
+	if err != nil {
+		return nil, ofCodec(err, codec)
 	}
-	runtime.SetFinalizer(d, (*Depacketizer).Close)
 	return d, nil
 }
 
@@ -112,33 +128,40 @@ func NewDepacketizer(codec string, format Format, params ReceiverParams) (*Depac
 // over; of more than may wait the one of the lowest number is dropped. It returns [ErrMemory].
 func (d *Depacketizer) Push(number uint64, timestamp uint32, marker bool, payload []byte) error {
 	at, size := place(payload)
-	return done(C.jilqamur_depacketizer_push(&d.handle, C.uint64_t(number), C.uint32_t(timestamp), C.bool(marker), at,
-		size))
+	return d.own().use(func(depacketizer *C.jilqamur_depacketizer) C.uint32_t {
+		return C.jilqamur_depacketizer_push(depacketizer, C.uint64_t(number), C.uint32_t(timestamp), C.bool(marker), at,
+			size)
+	})
 }
 
 // Pop returns the next unit, or nil if none is due. It returns one of [ErrPacketTooShort] to [ErrAMRWBCorrupted] if a
 // packet of the next frame is refused, which is then passed over; or [ErrMemory], and the frame stays.
-func (d *Depacketizer) Pop() (*Unit, error) { return d.unit(C.jilqamur_depacketizer_pop(&d.handle)) }
-
-// Drain is the same, even if a packet before the first complete frame is missing: for the end of a stream.
-func (d *Depacketizer) Drain() (*Unit, error) {
-	return d.unit(C.jilqamur_depacketizer_drain(&d.handle))
-}
-
-func (d *Depacketizer) unit(answer C.uint32_t) (*Unit, error) {
-	if answer == C.JILQAMUR_NOTHING {
-		return nil, nil
-	}
-	if err := done(answer); err != nil {
-		return nil, err
-	}
-	return unitOf(func(at *C.uint8_t, size C.size_t, needed *C.size_t, told *C.jilqamur_unit) C.uint32_t {
-		return C.jilqamur_depacketizer_unit(&d.handle, at, size, needed, told)
+func (d *Depacketizer) Pop() (*Unit, error) {
+	return d.unit(func(handle *C.jilqamur_depacketizer, at *C.uint8_t, size C.size_t, needed *C.size_t,
+		told *C.jilqamur_unit) C.uint32_t {
+		return C.pop_depacketizer(handle, at, size, needed, told)
 	})
 }
 
-// Close frees the depacketizer. It returns [ErrClosed] if it was closed.
-func (d *Depacketizer) Close() error {
-	runtime.SetFinalizer(d, nil)
-	return done(C.jilqamur_depacketizer_close(&d.handle))
+// Drain is the same, even if a packet before the first complete frame is missing: for the end of a stream.
+func (d *Depacketizer) Drain() (*Unit, error) {
+	return d.unit(func(handle *C.jilqamur_depacketizer, at *C.uint8_t, size C.size_t, needed *C.size_t,
+		told *C.jilqamur_unit) C.uint32_t {
+		return C.drain_depacketizer(handle, at, size, needed, told)
+	})
 }
+
+func (d *Depacketizer) unit(poll copying[C.jilqamur_depacketizer]) (*Unit, error) {
+	owned, err := d.own().lock()
+	if err != nil {
+		return nil, err
+	}
+	defer owned.mutex.Unlock()
+	return owned.polled(poll, func(handle *C.jilqamur_depacketizer, at *C.uint8_t, size C.size_t, needed *C.size_t,
+		told *C.jilqamur_unit) C.uint32_t {
+		return C.jilqamur_depacketizer_unit(handle, at, size, needed, told)
+	})
+}
+
+// Close frees the depacketizer, once a call of another goroutine has ended. It returns [ErrClosed] if it was closed.
+func (d *Depacketizer) Close() error { return d.own().close() }

@@ -1,9 +1,7 @@
 package jilqamur
 
-// #include "jilqamur.h"
+// #include "calls.h"
 import "C"
-
-import "runtime"
 
 // SenderParams say how a [Sender] numbers and cuts its samples.
 type SenderParams struct {
@@ -17,9 +15,13 @@ type SenderParams struct {
 }
 
 // A Sender is a sending stream of a codec, without an end and without header extensions.
-type Sender struct {
-	_      noCopy
-	handle C.jilqamur_sender
+type Sender struct{ owner owner[C.jilqamur_sender] }
+
+func (s *Sender) own() *owner[C.jilqamur_sender] {
+	if s == nil {
+		return nil
+	}
+	return &s.owner
 }
 
 // NewSender opens a stream that has sent nothing, of a codec of the names of [Row], in any case. It returns
@@ -36,10 +38,12 @@ func NewSender(codec string, format Format, params SenderParams) (*Sender, error
 		picture_id: C.uint16_t(params.PictureID.Value), for_browsers: C.bool(params.ForBrowsers),
 	}
 	name, size := placeOf(codec)
-	if err := done(C.jilqamur_sender_open(&s.handle, &given, &of, name, size)); err != nil {
-		return nil, err
+	err := s.owner.open(func(sender *C.jilqamur_sender) C.uint32_t {
+		return C.jilqamur_sender_open(sender, &given, &of, name, size)
+	}, func(sender *C.jilqamur_sender) C.uint32_t { return C.jilqamur_sender_close(sender) })
+	if err != nil {
+		return nil, ofCodec(err, codec)
 	}
-	runtime.SetFinalizer(s, (*Sender).Close)
 	return s, nil
 }
 
@@ -47,28 +51,49 @@ func NewSender(codec string, format Format, params SenderParams) (*Sender, error
 // that applies of [ErrStreamFailed], [ErrTimeTooLarge], [ErrLimitTooSmall] and [ErrPayload]; or [ErrMemory], and the
 // stream sends no more.
 func (s *Sender) PushSample(ticks uint64, sample []byte) ([][]byte, error) {
-	var count C.size_t
-	at, size := place(sample)
-	if err := done(C.jilqamur_sender_push_sample(&s.handle, C.uint64_t(ticks), at, size, &count)); err != nil {
-		return nil, err
-	}
-	return all(count, func(index C.size_t) ([]byte, error) {
-		return fetched(guess, func(at *C.uint8_t, size C.size_t, needed *C.size_t) C.uint32_t {
-			return C.jilqamur_sender_datagram(&s.handle, index, at, size, needed)
-		})
-	})
+	return s.push(nil, (*left).pieces, ticks, sample)
 }
 
-// Close frees the stream. It returns [ErrClosed] if it was closed.
-func (s *Sender) Close() error {
-	runtime.SetFinalizer(s, nil)
-	return done(C.jilqamur_sender_close(&s.handle))
+// AppendDatagrams is [Sender.PushSample], and appends the datagrams to a list, each in the memory of an element that
+// the list had after its last one, if that has enough: so AppendDatagrams(list[:0], ..) makes no garbage.
+func (s *Sender) AppendDatagrams(list [][]byte, ticks uint64, sample []byte) ([][]byte, error) {
+	return s.push(list, (*left).piecesInto, ticks, sample)
 }
+
+func (s *Sender) push(list [][]byte, pieces func(*left, [][]byte) [][]byte, ticks uint64, sample []byte) ([][]byte,
+	error) {
+	owned, err := s.own().lock()
+	if err != nil {
+		return list, err
+	}
+	defer owned.mutex.Unlock()
+	l := &owned.left
+	at, size := place(sample)
+	bytes, room := l.room()
+	ends, most := l.list()
+	err = done(C.push_to_sender(owned.handle, C.uint64_t(ticks), at, size, bytes, room, ends, most, &l.told))
+	if err != nil {
+		return list, err
+	}
+	l.finish(func() {
+		bytes, room := l.room()
+		ends, most := l.list()
+		C.copy_from_sender(owned.handle, bytes, room, ends, most, &l.told)
+	})
+	return pieces(l, list), nil
+}
+
+// Close frees the stream, once a call of another goroutine has ended. It returns [ErrClosed] if it was closed.
+func (s *Sender) Close() error { return s.own().close() }
 
 // A Receiver is a receiving stream of a codec, without an end.
-type Receiver struct {
-	_      noCopy
-	handle C.jilqamur_receiver
+type Receiver struct{ owner owner[C.jilqamur_receiver] }
+
+func (r *Receiver) own() *owner[C.jilqamur_receiver] {
+	if r == nil {
+		return nil
+	}
+	return &r.owner
 }
 
 // NewReceiver opens a stream that has taken nothing, and returns what [NewSender] returns.
@@ -79,26 +104,46 @@ func NewReceiver(codec string, format Format, params ReceiverParams) (*Receiver,
 	}
 	r, of := &Receiver{}, format.given()
 	name, size := placeOf(codec)
-	if err := done(C.jilqamur_receiver_open(&r.handle, &of, name, size, holdBack, held)); err != nil {
-		return nil, err
+	err = r.owner.open(func(receiver *C.jilqamur_receiver) C.uint32_t {
+		return C.jilqamur_receiver_open(receiver, &of, name, size, holdBack, held)
+	}, func(receiver *C.jilqamur_receiver) C.uint32_t { return C.jilqamur_receiver_close(receiver) })
+	if err != nil {
+		return nil, ofCodec(err, codec)
 	}
-	runtime.SetFinalizer(r, (*Receiver).Close)
 	return r, nil
 }
 
 // Push takes a packet by the fields of its header ([ReadHeader]) and its payload without padding, and returns its
 // widened number. It returns [ErrRefused] if that came before, or is 1,024 or more below the greatest, or [ErrMemory].
 func (r *Receiver) Push(sequenceNumber uint16, timestamp uint32, marker bool, payload []byte) (uint64, error) {
-	var number C.uint64_t
+	owned, err := r.own().lock()
+	if err != nil {
+		return 0, err
+	}
+	defer owned.mutex.Unlock()
+	return pushed(owned, sequenceNumber, timestamp, marker, payload)
+}
+
+func pushed(owned *owned[C.jilqamur_receiver], sequenceNumber uint16, timestamp uint32, marker bool,
+	payload []byte) (uint64, error) {
 	at, size := place(payload)
-	err := done(C.jilqamur_receiver_push(&r.handle, C.uint16_t(sequenceNumber), C.uint32_t(timestamp), C.bool(marker),
-		at, size, &number))
-	return uint64(number), err
+	number := &owned.left.told.number
+	answer := C.jilqamur_receiver_push(owned.handle, C.uint16_t(sequenceNumber), C.uint32_t(timestamp), C.bool(marker),
+		at, size, number)
+	if err := done(answer); err != nil {
+		return 0, err
+	}
+	return uint64(*number), nil
 }
 
 // Receive takes a datagram: it reads the header, takes the padding off, and pushes the packet. SSRC and payload type
 // aren't looked at. It returns [ErrUnreadable], [ErrDamaged] or what [Receiver.Push] returns.
 func (r *Receiver) Receive(datagram []byte) (uint64, error) {
+	owned, err := r.own().lock()
+	if err != nil {
+		return 0, err
+	}
+	defer owned.mutex.Unlock()
 	header, err := ReadHeader(datagram)
 	if err != nil {
 		return 0, err
@@ -107,33 +152,53 @@ func (r *Receiver) Receive(datagram []byte) (uint64, error) {
 	if err != nil {
 		return 0, err
 	}
-	return r.Push(header.SequenceNumber, header.Timestamp, header.Marker, payload)
+	return pushed(owned, header.SequenceNumber, header.Timestamp, header.Marker, payload)
 }
 
 // Poll returns the next unit, or nil if none is ready. It returns [ErrPayload] if a packet of the next frame is
 // refused, which is then passed over; or [ErrMemory], and the frame stays.
-func (r *Receiver) Poll() (*Unit, error) { return r.unit(C.jilqamur_receiver_poll(&r.handle)) }
-
-// Drain is the same, even if a packet before the first complete unit is missing: for the end of a stream.
-func (r *Receiver) Drain() (*Unit, error) { return r.unit(C.jilqamur_receiver_drain(&r.handle)) }
-
-// Units are all units that are ready. Frames that the codec can't read are passed over.
-func (r *Receiver) Units() ([]*Unit, error) { return units(r.Poll) }
-
-func (r *Receiver) unit(answer C.uint32_t) (*Unit, error) {
-	if answer == C.JILQAMUR_NOTHING {
-		return nil, nil
-	}
-	if err := done(answer); err != nil {
-		return nil, err
-	}
-	return unitOf(func(at *C.uint8_t, size C.size_t, needed *C.size_t, told *C.jilqamur_unit) C.uint32_t {
-		return C.jilqamur_receiver_unit(&r.handle, at, size, needed, told)
+func (r *Receiver) Poll() (*Unit, error) {
+	return r.unit(func(handle *C.jilqamur_receiver, at *C.uint8_t, size C.size_t, needed *C.size_t,
+		told *C.jilqamur_unit) C.uint32_t {
+		return C.poll_receiver(handle, at, size, needed, told)
 	})
 }
 
-// Close frees the stream. It returns [ErrClosed] if it was closed.
-func (r *Receiver) Close() error {
-	runtime.SetFinalizer(r, nil)
-	return done(C.jilqamur_receiver_close(&r.handle))
+// Drain is the same, even if a packet before the first complete unit is missing: for the end of a stream.
+func (r *Receiver) Drain() (*Unit, error) {
+	return r.unit(func(handle *C.jilqamur_receiver, at *C.uint8_t, size C.size_t, needed *C.size_t,
+		told *C.jilqamur_unit) C.uint32_t {
+		return C.drain_receiver(handle, at, size, needed, told)
+	})
 }
+
+// Units are all units that are ready. Frames that the codec can't read are passed over.
+func (r *Receiver) Units() (found []*Unit, err error) {
+	for {
+		unit, err := r.Poll()
+		switch {
+		case err == ErrPayload:
+		case err != nil:
+			return found, err
+		case unit == nil:
+			return found, nil
+		default:
+			found = append(found, unit)
+		}
+	}
+}
+
+func (r *Receiver) unit(poll copying[C.jilqamur_receiver]) (*Unit, error) {
+	owned, err := r.own().lock()
+	if err != nil {
+		return nil, err
+	}
+	defer owned.mutex.Unlock()
+	return owned.polled(poll, func(handle *C.jilqamur_receiver, at *C.uint8_t, size C.size_t, needed *C.size_t,
+		told *C.jilqamur_unit) C.uint32_t {
+		return C.jilqamur_receiver_unit(handle, at, size, needed, told)
+	})
+}
+
+// Close frees the stream, once a call of another goroutine has ended. It returns [ErrClosed] if it was closed.
+func (r *Receiver) Close() error { return r.own().close() }

@@ -1,6 +1,6 @@
 package jilqamur
 
-// #include "jilqamur.h"
+// #include "calls.h"
 import "C"
 
 import "time"
@@ -37,33 +37,45 @@ func (p ReceiverParams) sizes() (holdBack, held C.size_t, err error) {
 // ranges, or the first that applies of [ErrNoSection], [ErrRowNotAgreed], [ErrRowDiffers], [ErrWrongDirection],
 // [ErrSSRCNotNamed] and [ErrAlreadyOpen]; or [ErrMemory].
 func (e *End) OpenSender(mid string, ssrc uint32, payloadType uint8, params StreamParams) (int, error) {
-	if !areSizes(params.MTU, params.Limit) {
-		return 0, ErrOutOfRange
-	}
 	given := C.jilqamur_stream{
 		first: C.uint64_t(params.First), mtu: C.size_t(params.MTU), limit: C.size_t(params.Limit),
 		has_red: C.bool(len(params.Distances) > 0), has_picture_id: C.bool(params.PictureID.Valid),
 		picture_id: C.uint16_t(params.PictureID.Value), for_browsers: C.bool(params.ForBrowsers),
 	}
-	var stream C.size_t
-	name, nameSize := placeOf(mid)
 	distances, count := place(params.Distances)
-	err := done(C.jilqamur_end_open_sender(&e.handle, name, nameSize, C.uint32_t(ssrc), C.uint8_t(payloadType), &given,
-		distances, count, &stream))
-	return int(stream), err
+	return e.open(areSizes(params.MTU, params.Limit), mid, ssrc, payloadType,
+		func(end *C.jilqamur_end, name *C.uint8_t, size C.size_t, stream *C.size_t) C.uint32_t {
+			return C.jilqamur_end_open_sender(end, name, size, C.uint32_t(ssrc), C.uint8_t(payloadType), &given,
+				distances, count, stream)
+		})
+}
+
+// open opens a stream, unless its parameters aren't sound.
+func (e *End) open(isSound bool, mid string, ssrc uint32, payloadType uint8,
+	call func(*C.jilqamur_end, *C.uint8_t, C.size_t, *C.size_t) C.uint32_t) (int, error) {
+	err := keepsMid(mid)
+	if err == nil && !isSound {
+		err = ErrOutOfRange
+	}
+	var stream C.size_t
+	if err == nil {
+		name, size := placeOf(mid)
+		err = e.own().use(func(end *C.jilqamur_end) C.uint32_t { return call(end, name, size, &stream) })
+	}
+	if err != nil {
+		return 0, ofOpening(err, mid, ssrc, payloadType)
+	}
+	return int(stream), nil
 }
 
 // OpenReceiver opens a receiving stream in the same way.
 func (e *End) OpenReceiver(mid string, ssrc uint32, payloadType uint8, params ReceiverParams) (int, error) {
 	holdBack, held, err := params.sizes()
-	if err != nil {
-		return 0, err
-	}
-	var stream C.size_t
-	name, nameSize := placeOf(mid)
-	err = done(C.jilqamur_end_open_receiver(&e.handle, name, nameSize, C.uint32_t(ssrc), C.uint8_t(payloadType),
-		holdBack, held, &stream))
-	return int(stream), err
+	return e.open(err == nil, mid, ssrc, payloadType,
+		func(end *C.jilqamur_end, name *C.uint8_t, size C.size_t, stream *C.size_t) C.uint32_t {
+			return C.jilqamur_end_open_receiver(end, name, size, C.uint32_t(ssrc), C.uint8_t(payloadType), holdBack, held,
+				stream)
+		})
 }
 
 // OpenUnsignalled opens a receiving stream as [End.OpenReceiver], in a section whose sender names this SSRC or no SSRC
@@ -71,14 +83,11 @@ func (e *End) OpenReceiver(mid string, ssrc uint32, payloadType uint8, params Re
 // datagram that came and was foreign. It returns [ErrSSRCNotNamed] if the section names SSRCs, and not this one.
 func (e *End) OpenUnsignalled(mid string, ssrc uint32, payloadType uint8, params ReceiverParams) (int, error) {
 	holdBack, held, err := params.sizes()
-	if err != nil {
-		return 0, err
-	}
-	var stream C.size_t
-	name, nameSize := placeOf(mid)
-	err = done(C.jilqamur_end_open_unsignalled(&e.handle, name, nameSize, C.uint32_t(ssrc), C.uint8_t(payloadType),
-		holdBack, held, &stream))
-	return int(stream), err
+	return e.open(err == nil, mid, ssrc, payloadType,
+		func(end *C.jilqamur_end, name *C.uint8_t, size C.size_t, stream *C.size_t) C.uint32_t {
+			return C.jilqamur_end_open_unsignalled(end, name, size, C.uint32_t(ssrc), C.uint8_t(payloadType), holdBack, held,
+				stream)
+		})
 }
 
 // An Event is one report of a telephone event (RFC 4733, section 2.3).
@@ -100,45 +109,106 @@ type Unit struct {
 	Event       Optional[Event]  // the first report of a packet of telephone events
 }
 
-func unitOf(call func(*C.uint8_t, C.size_t, *C.size_t, *C.jilqamur_unit) C.uint32_t) (*Unit, error) {
-	var told C.jilqamur_unit
-	bytes, err := fetched(guess, func(at *C.uint8_t, size C.size_t, needed *C.size_t) C.uint32_t {
-		return call(at, size, needed, &told)
-	})
-	if err != nil {
-		return nil, err
-	}
+// into writes what C tells of a unit, and copies its bytes to the end of some memory.
+func (u *Unit) into(told *C.jilqamur_unit, memory, bytes []byte) {
 	event := Event{uint8(told.event), bool(told.event_end), uint8(told.event_volume),
 		time.Duration(told.event_duration)}
-	return &Unit{
-		Bytes: bytes, First: uint64(told.first), Last: uint64(told.last), Time: uint32(told.time),
+	*u = Unit{
+		Bytes: append(memory, bytes...), First: uint64(told.first), Last: uint64(told.last), Time: uint32(told.time),
 		Keyframe:  bool(told.is_keyframe),
 		PictureID: optional(told.has_picture_id, uint16(told.picture_id)),
 		BaseLayer: optional(told.has_base_layer, uint8(told.base_layer)),
 		Event:     optional(told.has_event, event),
-	}, nil
+	}
 }
 
-// PushSample sends a sample at a time in ticks of the row's clock, and returns its datagrams. They carry the values
-// that are given, and the mid if it isn't empty, each if the agreed map has an id for it (RFC 8285, RFC 9143 section
-// 15). It returns [ErrNotText], [ErrNoStream], or the first that applies of [ErrStreamFailed], [ErrTimeTooLarge],
-// [ErrLimitTooSmall] and [ErrPayload]; or [ErrMemory], and the stream sends no more.
-func (e *End) PushSample(stream int, ticks uint64, sample []byte, values Values, mid string) ([][]byte, error) {
-	var count C.size_t
-	given := values.given()
-	name, nameSize := placeOf(mid)
-	at, size := place(sample)
-	answer := C.jilqamur_end_push_sample(&e.handle, C.size_t(stream), C.uint64_t(ticks), &given, name, nameSize, at,
-		size, &count)
+// copying is a call that copies a unit, after a poll or without one.
+type copying[H any] func(*H, *C.uint8_t, C.size_t, *C.size_t, *C.jilqamur_unit) C.uint32_t
+
+// polled is what a poll hands out; the other call copies a unit for which there was no room.
+func (o *owned[H]) polled(poll, again copying[H]) (*Unit, error) {
+	l := &o.left
+	bytes, room := l.room()
+	l.list()
+	told, needed := l.unitList(), &l.told.needed
+	answer := poll(o.handle, bytes, room, needed, told)
+	if answer == C.JILQAMUR_TOO_SMALL {
+		l.grow(int(*needed))
+		bytes, room = l.room()
+		answer = again(o.handle, bytes, room, needed, told)
+	}
+	if answer == C.JILQAMUR_NOTHING {
+		return nil, nil
+	}
 	if err := done(answer); err != nil {
 		return nil, err
 	}
-	return all(count, e.datagram)
+	unit := &Unit{}
+	unit.into(told, nil, l.bytes[:*needed])
+	return unit, nil
 }
 
-func (e *End) datagram(index C.size_t) ([]byte, error) {
-	return fetched(guess, func(at *C.uint8_t, size C.size_t, needed *C.size_t) C.uint32_t {
-		return C.jilqamur_end_datagram(&e.handle, index, at, size, needed)
+// PushSample sends a sample at a time in ticks of the row's clock, and returns its datagrams, which are parts of one
+// block of memory. They carry the values that are given, and the mid if it isn't empty, each if the agreed map has an id
+// for it (RFC 8285, RFC 9143 section 15). It returns [ErrNotText] or [ErrMidNotKept], [ErrNoStream], or the first that
+// applies of [ErrStreamFailed], [ErrTimeTooLarge], [ErrLimitTooSmall] and [ErrPayload]; or [ErrMemory], and the stream
+// sends no more.
+func (e *End) PushSample(stream int, ticks uint64, sample []byte, values Values, mid string) ([][]byte, error) {
+	owned, err := e.push(stream, ticks, sample, &values, mid)
+	if err != nil {
+		return nil, err
+	}
+	defer owned.mutex.Unlock()
+	return owned.left.pieces(nil), nil
+}
+
+// AppendDatagrams is [End.PushSample], and appends the datagrams to a list, each in the memory of an element that the
+// list had after its last one, if that has enough: so AppendDatagrams(list[:0], ..) makes no garbage.
+func (e *End) AppendDatagrams(list [][]byte, stream int, ticks uint64, sample []byte, values Values, mid string) (
+	[][]byte, error) {
+	owned, err := e.push(stream, ticks, sample, &values, mid)
+	if err != nil {
+		return list, err
+	}
+	defer owned.mutex.Unlock()
+	return owned.left.piecesInto(list), nil
+}
+
+// push leaves the datagrams of a sample, and the end locked.
+func (e *End) push(stream int, ticks uint64, sample []byte, values *Values, mid string) (*owned[C.jilqamur_end], error) {
+	if err := keepsMid(mid); err != nil {
+		return nil, at(err, func() Place { return Place{Mids: []string{mid}} })
+	}
+	owned, err := e.own().lock()
+	if err != nil {
+		return nil, err
+	}
+	l := &owned.left
+	values.into(&l.values)
+	name, nameSize := placeOf(mid)
+	at, size := place(sample)
+	bytes, room := l.room()
+	ends, most := l.list()
+	answer := C.push_to_end(owned.handle, C.size_t(stream), C.uint64_t(ticks), &l.values, name, nameSize, at, size, bytes,
+		room, ends, most, &l.told)
+	if answer != C.JILQAMUR_OK {
+		owned.mutex.Unlock()
+		return nil, ofStream(Error(answer), stream)
+	}
+	if l.told.copied < l.told.count {
+		l.finish(func() {
+			bytes, room := l.room()
+			ends, most := l.list()
+			C.copy_from_end(owned.handle, bytes, room, ends, most, &l.told)
+		})
+	}
+	return owned, nil
+}
+
+// datagramOf is the first datagram that a call left.
+func datagramOf(owned *owned[C.jilqamur_end]) ([]byte, error) {
+	return owned.left.piece(func(at *C.uint8_t, size C.size_t, needed *C.size_t) C.uint32_t {
+		return C.jilqamur_end_datagram(owned.handle, 0, at, size, needed)
 	})
 }
 
@@ -146,79 +216,172 @@ func (e *End) datagram(index C.size_t) ([]byte, error) {
 // 4). It returns [ErrNoStream], or the first that applies of [ErrNoRepair], [ErrNotOwn] and [ErrLimitTooSmall] if two
 // bytes more exceed the stream's limit; or [ErrMemory].
 func (e *End) Repair(stream int, datagram []byte) ([]byte, error) {
-	at, size := place(datagram)
-	if err := done(C.jilqamur_end_repair(&e.handle, C.size_t(stream), at, size)); err != nil {
+	owned, err := e.own().lock()
+	if err != nil {
 		return nil, err
 	}
-	return e.datagram(0)
+	defer owned.mutex.Unlock()
+	at, size := place(datagram)
+	if err := done(C.jilqamur_end_repair(owned.handle, C.size_t(stream), at, size)); err != nil {
+		return nil, ofStream(err, stream)
+	}
+	return datagramOf(owned)
 }
 
 // Receive takes a datagram, and returns the number of the receiving stream that took it, and its widened sequence
 // number. It returns the first that applies of [ErrUnreadable], [ErrForeign], [ErrDamaged] and [ErrRefused], as
 // datagrams from the network make it do; or [ErrMemory].
 func (e *End) Receive(datagram []byte) (stream int, number uint64, err error) {
-	var taker C.size_t
-	var widened C.uint64_t
+	owned, err := e.own().lock()
+	if err != nil {
+		return 0, 0, err
+	}
+	defer owned.mutex.Unlock()
+	told := &owned.left.told
 	at, size := place(datagram)
-	err = done(C.jilqamur_end_receive(&e.handle, at, size, &taker, &widened))
-	return int(taker), uint64(widened), err
+	if err := done(C.jilqamur_end_receive(owned.handle, at, size, &told.stream, &told.number)); err != nil {
+		return 0, 0, err
+	}
+	return int(told.stream), uint64(told.number), nil
+}
+
+// AppendReceived takes a datagram as [End.Receive], and appends the units that its stream has ready then to a list, as
+// [End.AppendUnits]. It takes less time than both.
+func (e *End) AppendReceived(list []Unit, datagram []byte) (units []Unit, stream int, number uint64, err error) {
+	owned, err := e.own().lock()
+	if err != nil {
+		return list, 0, 0, err
+	}
+	defer owned.mutex.Unlock()
+	l := &owned.left
+	at, size := place(datagram)
+	bytes, room := l.room()
+	ends, most := l.list()
+	answer := C.receive_all(owned.handle, at, size, bytes, room, ends, most, l.unitList(), &l.told)
+	if err := done(answer); err != nil {
+		return list, 0, 0, err
+	}
+	stream, number = int(l.told.stream), uint64(l.told.number)
+	list, err = unitsInto(list, owned, stream, false)
+	return list, stream, number, err
+}
+
+// AppendUnits appends all units of a receiving stream that are ready to a list, the bytes of each in the memory of a
+// unit that the list had after its last one, if that has enough: so AppendUnits(list[:0], ..) makes no garbage. Frames
+// that the codec can't read are passed over. An error comes with the units before it.
+func (e *End) AppendUnits(list []Unit, stream int) ([]Unit, error) {
+	return e.appendUnits(list, stream, false)
+}
+
+func (e *End) appendUnits(list []Unit, stream int, isRest bool) ([]Unit, error) {
+	owned, err := e.own().lock()
+	if err != nil {
+		return list, err
+	}
+	defer owned.mutex.Unlock()
+	pollAll(owned, stream, isRest)
+	return unitsInto(list, owned, stream, isRest)
+}
+
+// pollAll polls a stream while there is room.
+func pollAll(owned *owned[C.jilqamur_end], stream int, isRest bool) {
+	l := &owned.left
+	bytes, room := l.room()
+	ends, most := l.list()
+	C.poll_all(owned.handle, C.size_t(stream), C.bool(isRest), bytes, room, ends, most, l.unitList(), &l.told)
+}
+
+// unitsInto appends the units that were copied, and those for which there was no room.
+func unitsInto(list []Unit, owned *owned[C.jilqamur_end], stream int, isRest bool) ([]Unit, error) {
+	for l := &owned.left; ; pollAll(owned, stream, isRest) {
+		begin := 0
+		for k, end := range l.ends[:l.told.copied] {
+			list = appended(list, &l.units[k], l.bytes[begin:end])
+			begin = int(end)
+		}
+		switch answer := l.told.polled; answer {
+		case C.JILQAMUR_OK:
+		case C.JILQAMUR_NOTHING:
+			return list, nil
+		case C.JILQAMUR_TOO_SMALL:
+			l.grow(int(l.told.needed))
+			bytes, room := l.room()
+			told, needed := &l.units[0], &l.told.needed
+			if err := done(C.jilqamur_end_unit(owned.handle, bytes, room, needed, told)); err != nil {
+				return list, err
+			}
+			list = appended(list, told, l.bytes[:*needed])
+		default:
+			return list, ofStream(Error(answer), stream)
+		}
+	}
+}
+
+// appended is a list with a unit more, in the memory of one that it had after its last one.
+func appended(list []Unit, told *C.jilqamur_unit, bytes []byte) []Unit {
+	if len(list) == cap(list) {
+		list = append(list, Unit{})
+	} else {
+		list = list[:len(list)+1]
+	}
+	unit := &list[len(list)-1]
+	unit.into(told, unit.Bytes[:0], bytes)
+	return list
 }
 
 // Poll returns the next unit of a receiving stream, or nil if none is ready. It returns [ErrNoStream]; [ErrPayload] if
 // a packet of the next frame is refused, which is then passed over; or [ErrMemory], and the frame stays.
-func (e *End) Poll(stream int) (*Unit, error) {
-	return e.unit(C.jilqamur_end_poll(&e.handle, C.size_t(stream)))
-}
+func (e *End) Poll(stream int) (*Unit, error) { return e.unit(stream, false) }
 
 // Drain is the same, even if a datagram before the first complete unit is missing: for the end of a stream.
-func (e *End) Drain(stream int) (*Unit, error) {
-	return e.unit(C.jilqamur_end_drain(&e.handle, C.size_t(stream)))
-}
+func (e *End) Drain(stream int) (*Unit, error) { return e.unit(stream, true) }
 
-func (e *End) unit(answer C.uint32_t) (*Unit, error) {
-	if answer == C.JILQAMUR_NOTHING {
-		return nil, nil
-	}
-	if err := done(answer); err != nil {
+func (e *End) unit(stream int, isRest bool) (*Unit, error) {
+	owned, err := e.own().lock()
+	if err != nil {
 		return nil, err
 	}
-	return unitOf(func(at *C.uint8_t, size C.size_t, needed *C.size_t, told *C.jilqamur_unit) C.uint32_t {
-		return C.jilqamur_end_unit(&e.handle, at, size, needed, told)
+	defer owned.mutex.Unlock()
+	unit, err := owned.polled(func(end *C.jilqamur_end, at *C.uint8_t, size C.size_t, needed *C.size_t,
+		told *C.jilqamur_unit) C.uint32_t {
+		return C.poll_end(end, C.size_t(stream), C.bool(isRest), at, size, needed, told)
+	}, func(end *C.jilqamur_end, at *C.uint8_t, size C.size_t, needed *C.size_t, told *C.jilqamur_unit) C.uint32_t {
+		return C.jilqamur_end_unit(end, at, size, needed, told)
 	})
+	if err != nil {
+		return nil, ofStream(err, stream)
+	}
+	return unit, nil
 }
 
 // Units are all units of a receiving stream that are ready. Frames that the codec can't read are passed over. An error
 // comes with the units before it.
-func (e *End) Units(stream int) ([]*Unit, error) {
-	return units(func() (*Unit, error) { return e.Poll(stream) })
-}
+func (e *End) Units(stream int) ([]*Unit, error) { return e.units(stream, false) }
 
 // Rest are all units that are left at the end of a receiving stream, whatever is missing between them.
-func (e *End) Rest(stream int) ([]*Unit, error) {
-	return units(func() (*Unit, error) { return e.Drain(stream) })
-}
+func (e *End) Rest(stream int) ([]*Unit, error) { return e.units(stream, true) }
 
-func units(next func() (*Unit, error)) (found []*Unit, err error) {
-	for {
-		unit, err := next()
-		switch {
-		case err == ErrPayload:
-		case err != nil:
-			return found, err
-		case unit == nil:
-			return found, nil
-		default:
-			found = append(found, unit)
+func (e *End) units(stream int, isRest bool) (found []*Unit, err error) {
+	list, err := e.appendUnits(nil, stream, isRest)
+	if len(list) > 0 {
+		found = make([]*Unit, len(list))
+		for k := range list {
+			found[k] = &list[k]
 		}
 	}
+	return found, err
 }
 
 // Values are the values of the header extensions of the last datagram of the unit that was handed out last. It returns
 // [ErrNothing] before the first unit.
 func (e *End) Values() (Values, error) {
-	var told C.jilqamur_values
-	if err := done(C.jilqamur_end_values(&e.handle, &told)); err != nil {
+	owned, err := e.own().lock()
+	if err != nil {
 		return Values{}, err
 	}
-	return valuesOf(&told), nil
+	defer owned.mutex.Unlock()
+	if err := done(C.jilqamur_end_values(owned.handle, &owned.left.values)); err != nil {
+		return Values{}, err
+	}
+	return valuesOf(&owned.left.values), nil
 }

@@ -20,7 +20,8 @@ type Values struct {
 	ClockOffset      Optional[int64]  // how far the sender's clock is ahead, in 2^-32 seconds; only with CaptureTime
 }
 
-func (v Values) given() (given C.jilqamur_values) {
+// into writes the values for C.
+func (v *Values) into(given *C.jilqamur_values) {
 	given.has_audio_level, given.audio_level = C.bool(v.AudioLevel.Valid), C.int8_t(v.AudioLevel.Value)
 	given.has_voice_activity, given.voice_activity = C.bool(v.VoiceActivity.Valid), C.bool(v.VoiceActivity.Value)
 	given.has_abs_send_time, given.abs_send_time = C.bool(v.AbsSendTime.Valid), C.uint64_t(v.AbsSendTime.Value)
@@ -33,7 +34,6 @@ func (v Values) given() (given C.jilqamur_values) {
 	given.video_content_type = C.uint8_t(v.VideoContentType.Value)
 	given.has_capture_time, given.capture_time = C.bool(v.CaptureTime.Valid), C.uint64_t(v.CaptureTime.Value)
 	given.has_clock_offset, given.clock_offset = C.bool(v.ClockOffset.Valid), C.int64_t(v.ClockOffset.Value)
-	return given
 }
 
 func valuesOf(told *C.jilqamur_values) Values {
