@@ -76,49 +76,104 @@ func sampleOf(l line) []byte {
 	return sample
 }
 
+// A call is a pair of ends, of which one sends samples to the other: each by itself, or up to 20 in a batch.
+type call struct {
+	a, b     *jilqamur.End
+	sample   []byte
+	ticks    uint64
+	sent     [][][]byte
+	units    []jilqamur.Unit
+	batch    jilqamur.Batch
+	received int // the bytes of the last unit
+}
+
+func (c *call) send() {
+	for i := range c.sent {
+		c.ticks += 960
+		datagrams, err := c.a.AppendDatagrams(c.sent[i][:0], 0, c.ticks, c.sample, jilqamur.Values{}, "")
+		check(err)
+		c.sent[i] = datagrams
+	}
+}
+
+func (c *call) receive() {
+	for _, datagrams := range c.sent {
+		for _, datagram := range datagrams {
+			var err error
+			c.units, _, _, err = c.b.AppendReceived(c.units[:0], datagram)
+			check(err)
+			c.count(c.units)
+		}
+	}
+}
+
+func (c *call) count(units []jilqamur.Unit) {
+	for k := range units {
+		c.received = len(units[k].Bytes)
+	}
+}
+
+func (c *call) sendBatch(samples int) func() {
+	given := make([]jilqamur.Sample, samples)
+	return func() {
+		for i := range c.sent {
+			for k := range given {
+				c.ticks += 960
+				given[k] = jilqamur.Sample{Ticks: c.ticks, Bytes: c.sample}
+			}
+			datagrams, err := c.a.AppendBatch(c.sent[i][:0], 0, given, jilqamur.Values{}, "")
+			check(err)
+			c.sent[i] = datagrams
+		}
+	}
+}
+
+func (c *call) receiveBatch() {
+	for _, datagrams := range c.sent {
+		check(c.b.ReceiveBatch(&c.batch, datagrams))
+		for k := range c.batch.Received {
+			check(c.batch.Received[k].Err)
+			c.count(c.batch.Received[k].Units)
+		}
+	}
+}
+
 // measure tells how fast samples are sent, and their datagrams received and polled. Each slice sends its own
 // datagrams, since an end takes each number once.
 func measure(l line) {
-	a, b := agreed(l)
-	sample := sampleOf(l)
 	rounds := 200000 / l.size
 	if rounds < 1 {
 		rounds = 1
 	} else if rounds > 1000 {
 		rounds = 1000
 	}
-	rate := func(nanos int64) int64 { return int64(l.size) * int64(rounds) * 1000 / nanos }
-	ticks := uint64(0)
-	sent := make([][][]byte, rounds)
-	send := func() {
-		for i := range sent {
-			ticks += 960
-			datagrams, err := a.AppendDatagrams(sent[i][:0], 0, ticks, sample, jilqamur.Values{}, "")
-			check(err)
-			sent[i] = datagrams
-		}
+	c := &call{sample: sampleOf(l)}
+	c.sent = make([][][]byte, rounds)
+	report(l, "", rounds, c.send, c.receive, c)
+	samples := 20
+	if rounds < samples {
+		samples = rounds
 	}
-	fmt.Fprintf(os.Stderr, "%s, %d bytes: %d MB a second sent\n", l.name, l.size, rate(fastest(send)))
-	bytes, least, units := 0, int64(1)<<62, []jilqamur.Unit(nil)
+	c.sent = make([][][]byte, rounds/samples)
+	report(l, " in batches", len(c.sent)*samples, c.sendBatch(samples), c.receiveBatch, c)
+}
+
+func report(l line, how string, samples int, send, receive func(), c *call) {
+	rate := func(nanos int64) int64 { return int64(l.size) * int64(samples) * 1000 / nanos }
+	c.a, c.b = agreed(l)
+	fmt.Fprintf(os.Stderr, "%s%s, %d bytes: %d MB a second sent\n", l.name, how, l.size, rate(fastest(send)))
+	c.a, c.b = agreed(l) // numbers that are too far ahead can't be widened
+	least := int64(1) << 62
 	for i := 0; i < slices; i++ {
 		send()
 		start := time.Now()
-		for _, datagrams := range sent {
-			for _, datagram := range datagrams {
-				var err error
-				units, _, _, err = b.AppendReceived(units[:0], datagram)
-				check(err)
-				for _, unit := range units {
-					bytes = len(unit.Bytes)
-				}
-			}
-		}
+		receive()
 		if nanos := time.Since(start).Nanoseconds(); i > 0 && nanos < least {
 			least = nanos
 		}
 	}
-	fmt.Printf("%s: %d bytes in %d datagrams, %d in a unit\n", l.name, l.size, len(sent[0]), bytes)
-	fmt.Fprintf(os.Stderr, "%s, %d bytes: %d MB a second received and polled\n", l.name, l.size, rate(least))
+	fmt.Printf("%s%s: %d bytes, %d in a unit\n", l.name, how, l.size, c.received)
+	fmt.Fprintf(os.Stderr, "%s%s, %d bytes: %d MB a second received and polled\n", l.name, how, l.size, rate(least))
 }
 
 func main() {

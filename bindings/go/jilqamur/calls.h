@@ -14,7 +14,17 @@ typedef struct told {
     size_t stream;   /* the stream that took a datagram */
     uint64_t number; /* its widened sequence number */
     uint32_t polled; /* what the last poll answered; JILQAMUR_TOO_SMALL if a unit is left to be fetched */
+    size_t done;     /* of a batch: how many samples or datagrams were handed in */
+    bool is_within;  /* of a batch: whether the last one of these has datagrams or units left */
 } told;
+
+/* What came of a datagram of a batch. */
+typedef struct taken {
+    uint32_t answer; /* whether it was taken */
+    size_t stream;   /* the stream that took it */
+    uint64_t number; /* its widened sequence number */
+    size_t units;    /* how many units its stream had ready then */
+} taken;
 
 /* Room for what is copied: bytes, and where each datagram or unit ends in them. */
 #define ROOM uint8_t *bytes, size_t room, size_t *ends, size_t most
@@ -103,6 +113,66 @@ static inline uint32_t receive_all(jilqamur_end *end, const uint8_t *datagram, s
     if (answer == JILQAMUR_OK)
         poll_all(end, told->stream, false, bytes, room, ends, most, units, told);
     return answer;
+}
+
+/* Sends samples, one after the other in some memory, from the one of index told->done on, while there is room for
+ * datagrams: what the first that is refused answers, else JILQAMUR_OK. next is the first datagram of the last sample
+ * that wasn't copied yet. */
+static inline uint32_t push_batch(jilqamur_end *end, size_t stream, const uint64_t *ticks, const uint8_t *samples,
+                                  const size_t *sample_ends, size_t samples_count, const jilqamur_values *values,
+                                  const uint8_t *mid, size_t mid_len, ROOM, size_t *next, told *told)
+{
+    size_t at = 0, len = 0;
+    told->copied = 0;
+    while (told->done < samples_count || told->is_within) {
+        if (!told->is_within) {
+            size_t i = told->done, begin = i == 0 ? 0 : sample_ends[i - 1];
+            uint32_t answer = jilqamur_end_push_sample(end, stream, ticks[i], values, mid, mid_len, samples + begin,
+                                                       sample_ends[i] - begin, &told->count);
+            if (answer != JILQAMUR_OK)
+                return answer;
+            told->done++;
+            told->is_within = true;
+            *next = 0;
+        }
+        for (; *next < told->count; ends[told->copied++] = at += len, ++*next)
+            if (told->copied == most || jilqamur_end_datagram(end, *next, bytes + at, room - at, &len) != JILQAMUR_OK)
+                return JILQAMUR_OK;
+        told->is_within = false;
+    }
+    return JILQAMUR_OK;
+}
+
+/* Takes datagrams, one after the other in some memory, from the one of index told->done on, and polls after each, while
+ * there is room for units. */
+static inline void receive_batch(jilqamur_end *end, const uint8_t *datagrams, const size_t *datagram_ends, size_t count,
+                                 taken *taken, ROOM, jilqamur_unit *units, told *told)
+{
+    size_t at = 0, len = 0;
+    told->copied = 0;
+    while (told->done < count || told->is_within) {
+        if (!told->is_within) {
+            size_t i = told->done++, begin = i == 0 ? 0 : datagram_ends[i - 1];
+            taken[i].units = 0;
+            taken[i].answer = jilqamur_end_receive(end, datagrams + begin, datagram_ends[i] - begin, &taken[i].stream,
+                                                   &taken[i].number);
+            if (taken[i].answer != JILQAMUR_OK)
+                continue;
+            told->is_within = true;
+        }
+        for (; told->copied < most; ends[told->copied++] = at += len, taken[told->done - 1].units++) {
+            do
+                told->polled = poll_end(end, taken[told->done - 1].stream, false, bytes + at, room - at, &len,
+                                        &units[told->copied]);
+            while (told->polled == JILQAMUR_PAYLOAD);
+            if (told->polled != JILQAMUR_OK)
+                break;
+        }
+        told->needed = len;
+        if (told->polled != JILQAMUR_NOTHING)
+            return;
+        told->is_within = false;
+    }
 }
 
 #endif

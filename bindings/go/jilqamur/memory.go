@@ -40,6 +40,8 @@ type left struct {
 	units  []C.jilqamur_unit
 	values C.jilqamur_values
 	told   C.told
+	in     joined   // what a batch hands in
+	next   C.size_t // the first datagram of a batch's last sample that wasn't copied yet
 }
 
 // The least room: for a datagram, and for as many datagrams of a sample, or units that are due at once, as most have.

@@ -389,3 +389,59 @@ func TestManyUnitsAtOnce(t *testing.T) {
 		equal(t, len(unit.Bytes), 10+k*11)
 	}
 }
+
+// Batches do what single calls do.
+func TestBatchesAreAsSingleCalls(t *testing.T) {
+	a, b := agreed(t)
+	c, d := agreed(t)
+	var batch Batch
+	var list [][]byte
+	for turn, count := range []int{1, 3, 0, 40, 2} {
+		var samples []Sample
+		var single, wanted [][]byte
+		for k := 0; k < count; k++ {
+			sample := Sample{uint64(turn*100000 + k*3000), frame(1 + (k*977)%3000)}
+			samples = append(samples, sample)
+			single = append(single, must[[][]byte](t)(c.PushSample(1, sample.Ticks, sample.Bytes, Values{}, "v"))...)
+			wanted = append(wanted, sample.Bytes)
+		}
+		var err error
+		list, err = a.AppendBatch(list[:0], 1, samples, Values{}, "v")
+		equal(t, err, nil)
+		equal(t, len(list), len(single))
+		for k := range list {
+			equal(t, list[k], single[k])
+		}
+		equal(t, b.ReceiveBatch(&batch, append(list, []byte{1})), nil)
+		var units [][]byte
+		for k, received := range batch.Received[:len(list)] {
+			stream, number, err := d.Receive(single[k])
+			equal(t, []any{received.Stream, received.Number, received.Err}, []any{stream, number, err})
+			for j, unit := range must[[]*Unit](t)(d.Units(1)) {
+				equal(t, received.Units[j], *unit)
+				units = append(units, unit.Bytes)
+			}
+		}
+		equal(t, units, wanted)
+		refused(t, batch.Received[len(list)].Err, ErrUnreadable)
+	}
+	_, err := a.AppendBatch(nil, 9, []Sample{{1, []byte{1}}}, Values{}, "")
+	refused(t, err, ErrNoStream)
+	// Many units at once, after the first datagram.
+	var late [][]byte
+	for k := 0; k < 300; k++ {
+		late = append(late, must[[][]byte](t)(a.PushSample(0, 1<<20+uint64(k)*960, make([]byte, 10+k*11), Values{}, ""))...)
+	}
+	equal(t, b.ReceiveBatch(&batch, append(append([][]byte(nil), late[1:]...), late[0])), nil)
+	count := 0
+	for _, received := range batch.Received {
+		count += len(received.Units)
+	}
+	rest := must[[]*Unit](t)(b.Rest(0))
+	equal(t, count+len(rest) > 290, true)
+	// A sample that is refused ends the batch.
+	equal(t, a.SkipTo(0, 1<<62-1), nil)
+	list, err = a.AppendBatch(nil, 0, []Sample{{1 << 30, []byte{1}}, {1 << 31, []byte{2}}, {3, []byte{3}}}, Values{}, "")
+	refused(t, err, ErrStreamFailed)
+	equal(t, len(list), 1)
+}

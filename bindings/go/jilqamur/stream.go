@@ -111,14 +111,19 @@ type Unit struct {
 
 // into writes what C tells of a unit, and copies its bytes to the end of some memory.
 func (u *Unit) into(told *C.jilqamur_unit, memory, bytes []byte) {
-	event := Event{uint8(told.event), bool(told.event_end), uint8(told.event_volume),
-		time.Duration(told.event_duration)}
 	*u = Unit{
 		Bytes: append(memory, bytes...), First: uint64(told.first), Last: uint64(told.last), Time: uint32(told.time),
-		Keyframe:  bool(told.is_keyframe),
-		PictureID: optional(told.has_picture_id, uint16(told.picture_id)),
-		BaseLayer: optional(told.has_base_layer, uint8(told.base_layer)),
-		Event:     optional(told.has_event, event),
+		Keyframe: bool(told.is_keyframe),
+	}
+	if told.has_picture_id {
+		u.PictureID = Some(uint16(told.picture_id))
+	}
+	if told.has_base_layer {
+		u.BaseLayer = Some(uint8(told.base_layer))
+	}
+	if told.has_event {
+		u.Event = Some(Event{uint8(told.event), bool(told.event_end), uint8(told.event_volume),
+			time.Duration(told.event_duration)})
 	}
 }
 
@@ -304,13 +309,11 @@ func unitsInto(list []Unit, owned *owned[C.jilqamur_end], stream int, isRest boo
 		case C.JILQAMUR_NOTHING:
 			return list, nil
 		case C.JILQAMUR_TOO_SMALL:
-			l.grow(int(l.told.needed))
-			bytes, room := l.room()
-			told, needed := &l.units[0], &l.told.needed
-			if err := done(C.jilqamur_end_unit(owned.handle, bytes, room, needed, told)); err != nil {
+			told, err := l.leftUnit(owned.handle)
+			if err != nil {
 				return list, err
 			}
-			list = appended(list, told, l.bytes[:*needed])
+			list = appended(list, told, l.bytes[:l.told.needed])
 		default:
 			return list, ofStream(Error(answer), stream)
 		}
