@@ -1,16 +1,31 @@
 //! The datagrams of samples, and what calls copy.
 
 use crate::ends::End;
+use crate::error::code;
 use crate::sys;
-use std::ptr;
+use std::mem::MaybeUninit;
+use std::slice;
 
-/// What a call copies: it is called once for the size that is needed, and once for the bytes.
+/// How many bytes a first call offers: few datagrams and texts have more.
+const ROOM: usize = 1500;
+
+/// What a call copies, nothing if it is refused: it is called with some room first, and again if that is too small.
 pub(crate) fn fetched(mut call: impl FnMut(*mut u8, usize, &mut usize) -> u32) -> Vec<u8> {
+    let mut room = MaybeUninit::<[u8; ROOM]>::uninit();
     let mut needed = 0;
-    call(ptr::NonNull::dangling().as_ptr(), 0, &mut needed);
-    let mut bytes = vec![0; needed];
-    call(bytes.as_mut_ptr(), bytes.len(), &mut needed);
-    bytes
+    match call(room.as_mut_ptr().cast(), ROOM, &mut needed) {
+        // SAFETY: the call wrote so many bytes.
+        code::OK => unsafe { slice::from_raw_parts(room.as_ptr().cast::<u8>(), needed) }.to_vec(),
+        code::TOO_SMALL => {
+            let mut bytes = Vec::with_capacity(needed);
+            if call(bytes.as_mut_ptr(), needed, &mut needed) == code::OK {
+                // SAFETY: the call wrote so many bytes.
+                unsafe { bytes.set_len(needed) };
+            }
+            bytes
+        }
+        _ => Vec::new(),
+    }
 }
 
 /// The datagrams of a sample, in order.

@@ -3,7 +3,7 @@
 use crate::datagrams::{Datagrams, fetched};
 use crate::error::{Reason, code};
 use crate::params::{Received, Row, StreamParams};
-use crate::refused::{EndError, Place, done, done_at, done_of};
+use crate::refused::{EndError, Place, done, done_at, done_of, keeps_mid};
 use crate::sys;
 use crate::units::{Unit, handed_out};
 use crate::values::Values;
@@ -92,7 +92,7 @@ impl End {
     /// are how many payloads back redundancy reaches: rising, 1 to 8, for a row with a RED type.
     ///
     /// # Errors
-    /// `NotMade`, `OutOfRange`, `NoSection`, `RowNotAgreed`, `RowDiffers`, `WrongDirection`, `SsrcNotNamed`,
+    /// `MidNotKept`, `NotMade`, `OutOfRange`, `NoSection`, `RowNotAgreed`, `RowDiffers`, `WrongDirection`, `SsrcNotNamed`,
     /// `AlreadyOpen` or `Memory`; nothing has changed.
     pub fn open_sender(
         &mut self,
@@ -102,6 +102,7 @@ impl End {
         params: StreamParams,
         distances: Option<&[u8]>,
     ) -> Result<usize, EndError> {
+        keeps_mid(mid, || Place::opening(mid, ssrc, payload_type))?;
         let params = params.with_redundancy(distances.is_some());
         let distances = distances.unwrap_or(&[]);
         let mut stream = 0;
@@ -137,6 +138,7 @@ impl End {
         hold_back: usize,
         held: usize,
     ) -> Result<usize, EndError> {
+        keeps_mid(mid, || Place::opening(mid, ssrc, payload_type))?;
         let mut stream = 0;
         // SAFETY: the handle is open, and pointer and length are those of one slice.
         let answer = unsafe {
@@ -169,6 +171,7 @@ impl End {
         hold_back: usize,
         held: usize,
     ) -> Result<usize, EndError> {
+        keeps_mid(mid, || Place::opening(mid, ssrc, payload_type))?;
         let mut stream = 0;
         // SAFETY: the handle is open, and pointer and length are those of one slice.
         let answer = unsafe {
@@ -191,7 +194,7 @@ impl End {
     /// and the agreed map has a number for it.
     ///
     /// # Errors
-    /// `NotMade`, `NoStream`, `StreamFailed`, `TimeTooLarge`, `LimitTooSmall` or `Payload`, and nothing has changed; or
+    /// `MidNotKept`, `NotMade`, `NoStream`, `StreamFailed`, `TimeTooLarge`, `LimitTooSmall` or `Payload`, and nothing has changed; or
     /// `Memory`, and the stream sends no more.
     pub fn push_sample(
         &mut self,
@@ -216,6 +219,7 @@ impl End {
         values: &Values,
     ) -> Result<Datagrams<'_>, EndError> {
         let (mid, values) = (mid.unwrap_or(""), values.given());
+        keeps_mid(mid, || Place::section(mid))?;
         let mut count = 0;
         // SAFETY: the handle is open, and pointers and lengths are those of one slice each.
         let answer = unsafe {

@@ -4,7 +4,7 @@ use crate::datagrams::fetched;
 use crate::ends::End;
 use crate::error::code;
 use crate::params::{AgreedSection, Direction, Kind, Row, Section};
-use crate::refused::{EndError, Place, done, done_at};
+use crate::refused::{EndError, Place, done, done_at, keeps_mid};
 use crate::sys;
 use std::ptr;
 
@@ -15,6 +15,7 @@ fn named(sections: &[Section<'_>]) -> Place {
 
 impl End {
     fn sections(&mut self, sections: &[Section<'_>]) -> Result<(), EndError> {
+        sections.iter().try_for_each(|section| keeps_mid(section.mid, || named(sections)))?;
         let gathered = self.gather(sections);
         if gathered.is_err() {
             // An answer to no text is refused, and uses up what was gathered.
@@ -64,7 +65,8 @@ impl End {
     /// The text of an offer of these sections (RFC 3264 5); it is then pending.
     ///
     /// # Errors
-    /// `NotMade`, `OutOfRange` if the repairs of a section aren't sound, `OutOfTurn`, `NotCorresponding`,
+    /// `MidNotKept` for a mid that has more than 16 bytes or other signs than letters, digits and `_`; `NotMade`,
+    /// `OutOfRange` if the repairs of a section aren't sound, `OutOfTurn`, `NotCorresponding`,
     /// `NoCommonRow`, `NotWritable` or `Memory`; the end is unchanged.
     pub fn offer(&mut self, sections: &[Section<'_>]) -> Result<String, EndError> {
         self.sections(sections)?;
@@ -76,7 +78,7 @@ impl End {
     /// The text of the answer to an offer, of these sections (RFC 3264 6); it is then agreed.
     ///
     /// # Errors
-    /// `NotMade`, `OutOfRange` if the repairs of a section aren't sound, `TextUnreadable`, `OutOfTurn`, `NotMedia`,
+    /// `MidNotKept`, `NotMade`, `OutOfRange` if the repairs of a section aren't sound, `TextUnreadable`, `OutOfTurn`, `NotMedia`,
     /// `NotCorresponding`, `Round`, `NoCommonRow`, `NotWritable` or `Memory`; the end is unchanged.
     pub fn answer(&mut self, offer: &str, sections: &[Section<'_>]) -> Result<String, EndError> {
         self.sections(sections)?;

@@ -4,7 +4,7 @@ use crate::datagrams::fetched;
 use crate::ends::End;
 use crate::error::code;
 use crate::params::Received;
-use crate::refused::{EndError, done, done_of};
+use crate::refused::{EndError, Place, done, done_of, keeps_mid};
 use crate::sys;
 use crate::values::Values;
 
@@ -131,8 +131,8 @@ impl End {
     /// are numbered above them.
     ///
     /// # Errors
-    /// `NotMade` or `NoStream`; else the first that applies of `AddsRedundancy`, `NumberTooLarge`, `NoPayload` and
-    /// `LimitTooSmall`; or `Memory`. Nothing has changed.
+    /// `MidNotKept`, `NotMade` or `NoStream`; else the first that applies of `AddsRedundancy`, `NumberTooLarge`,
+    /// `NoPayload` and `LimitTooSmall`; or `Memory`. Nothing has changed.
     pub fn send_packet(
         &mut self,
         stream: usize,
@@ -141,6 +141,7 @@ impl End {
         mid: Option<&str>,
     ) -> Result<Vec<u8>, EndError> {
         let (mid, values) = (mid.unwrap_or(""), values.given());
+        keeps_mid(mid, || Place::section(mid))?;
         // SAFETY: the handle is open, and pointers and lengths are those of one slice each.
         let answer = unsafe {
             sys::jilqamur_end_send_packet(

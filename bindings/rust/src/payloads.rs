@@ -172,8 +172,11 @@ impl Packetizer {
     /// The payloads of a sample, each of at most `mtu` bytes, one after the other.
     ///
     /// # Errors
-    /// Why the codec refuses the sample, or `Memory`; nothing has changed.
+    /// `OutOfRange` for an `mtu` of 0, why the codec refuses the sample, or `Memory`; nothing has changed.
     pub fn packetize(&mut self, mtu: usize, sample: &[u8]) -> Result<impl Iterator<Item = Packet> + '_, Fault> {
+        if mtu == 0 {
+            return Err(Fault::OutOfRange);
+        }
         let mut count = 0;
         // SAFETY: the handle is open, and pointer and length are those of one slice.
         done(unsafe {

@@ -49,6 +49,10 @@ impl Place {
         Place::Opening { mid: mid.into(), ssrc, payload_type }
     }
 
+    pub(crate) fn section(mid: &str) -> Place {
+        Place::Sections(vec![mid.into()])
+    }
+
     pub(crate) fn row(codec: &str, payload_type: u8) -> Place {
         Place::Row { codec: codec.into(), payload_type }
     }
@@ -132,4 +136,10 @@ pub(crate) fn done_at(answer: u32, place: impl FnOnce() -> Place) -> Result<(), 
 /// What a call answers that is about a stream of an end.
 pub(crate) fn done_of(answer: u32, stream: usize) -> Result<(), EndError> {
     done_at(answer, || Place::Stream(stream))
+}
+
+/// Refuses a mid that would be cut or changed: it has at most 16 bytes, each a letter, a digit or `_`.
+pub(crate) fn keeps_mid(mid: &str, place: impl FnOnce() -> Place) -> Result<(), EndError> {
+    let is_kept = mid.len() <= 16 && mid.bytes().all(|byte| byte.is_ascii_alphanumeric() || byte == b'_');
+    if is_kept { Ok(()) } else { Err(EndError::new(Reason::MidNotKept, Some(place()))) }
 }

@@ -1,6 +1,9 @@
 //! Refusals say why, and what about.
 
-use jilqamur::{Direction, End, EndError, Format, Kind, MIN_HELD, Place, Reason, Row, Section, Sender, SenderParams};
+use jilqamur::{
+    Direction, End, EndError, Fault, Format, ForwardedPacket, Kind, MIN_HELD, Packetizer, PacketizerParams, Place,
+    Reason, Row, Section, SectionRequest, Sender, SenderParams, StreamParams, Values,
+};
 
 fn row(codec: &str, payload_type: u8) -> Place {
     Place::Row { codec: codec.into(), payload_type }
@@ -41,6 +44,55 @@ fn sections_and_streams_are_named() -> Result<(), EndError> {
     assert_eq!(no_section.to_string(), "no such section is agreed (section 0, SSRC 44, type 111)");
     let out_of_turn = end.accept("v=0\r\n").expect_err("no offer is pending");
     assert_eq!(out_of_turn.place(), None);
+    Ok(())
+}
+
+#[test]
+fn a_mid_that_would_be_changed_is_refused() -> Result<(), EndError> {
+    for mid in ["abcdefghij_123456", "a-b", "a b", "\u{e4}", "a\n"] {
+        let mut end = End::builder().codec("opus", 111).build()?;
+        let section = Section { mid, kind: Kind::Audio, direction: Direction::SendRecv, ssrcs: &[44], repairs: &[] };
+        let (named, opening) =
+            (Place::Sections(vec![mid.into()]), Place::Opening { mid: mid.into(), ssrc: 44, payload_type: 111 });
+        let packet = ForwardedPacket { number: 1, timestamp: 1, marker: false, payload: &[1] };
+        let params = StreamParams::new(0, 1200, 1400);
+        let refused = [
+            (end.offer(&[section]).expect_err("it isn't kept"), &named),
+            (end.answer("", &[section]).expect_err("it isn't kept"), &named),
+            (end.open_sender(mid, 44, 111, params, None).expect_err("it isn't kept"), &opening),
+            (end.open_receiver(mid, 44, 111, 2, MIN_HELD).expect_err("it isn't kept"), &opening),
+            (end.open_unsignalled(mid, 44, 111, 2, MIN_HELD).expect_err("it isn't kept"), &opening),
+            (end.push_sample(0, 0, &[1], Some(mid)).map(|_| ()).expect_err("it isn't kept"), &named),
+            (end.send_packet(0, &packet, &Values::default(), Some(mid)).expect_err("it isn't kept"), &named),
+        ];
+        for (error, place) in &refused {
+            assert_eq!((error.reason(), error.place()), (Reason::MidNotKept, Some(*place)));
+        }
+    }
+    Ok(())
+}
+
+/// What a call gathered is used up when it is refused.
+#[test]
+fn a_refused_call_leaves_nothing() -> Result<(), EndError> {
+    let mut end = End::builder().codec("opus", 111).build()?;
+    let direction = Direction::SendRecv;
+    let section = |mid, repairs| Section { mid, kind: Kind::Audio, direction, ssrcs: &[1], repairs };
+    end.offer(&[section("x", &[(1, 2)]), section("a-b", &[])]).expect_err("the mid isn't kept");
+    end.offer(&[section("x", &[(7, 8)])]).expect_err("the repairs aren't sound");
+    end.answer("nothing", &[section("x", &[])]).expect_err("the text can't be read");
+    let request = SectionRequest::Accept { direction, ssrcs: &[5], repairs: &[] };
+    end.answer_browser("nothing", &[request]).expect_err("the text can't be read");
+    let offer = end.offer(&[Section { ssrcs: &[], ..section("z", &[]) }])?;
+    assert_eq!((offer.matches("a=mid:").count(), offer.matches("a=ssrc").count()), (1, 0));
+    Ok(())
+}
+
+#[test]
+fn an_mtu_of_0_is_refused() -> Result<(), Fault> {
+    let mut packetizer = Packetizer::new("VP8", Format::new(90_000), PacketizerParams::new())?;
+    assert_eq!(packetizer.packetize(0, &[1, 2]).map(|_| ()), Err(Fault::OutOfRange));
+    assert!(packetizer.packetize(2, &[1, 2])?.count() > 0);
     Ok(())
 }
 
