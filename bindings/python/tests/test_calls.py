@@ -4,8 +4,8 @@ import threading
 import unittest
 from pathlib import Path
 
-from jilqamur import (EXTENSIONS, Arrival, Code, Depacketizer, Direction, End, Event, ExtensionIds, FaultyLine, Format,
-                      Forwarder, Header, LineFault, PacketInfo, Packetizer, Placed, Receiver, Refused, Row, Section,
+from jilqamur import (EXTENSIONS, Arrival, Code, Depacketizer, Direction, End, Event, ExtensionIds, FaultyLine,
+                      Format, Forwarder, Header, LineFault, PacketInfo, Packetizer, Placed, Receiver, Refused, Row, Section,
                       SectionRequest, Sender, Setup, Taken, Values, Verdict, Window, faulty_line, packet_info,
                       payload_of, read_header, read_values, widen, write_header)
 
@@ -22,10 +22,16 @@ def agreed() -> tuple[End, End]:
     wanted = [[Section("a", False, ssrcs=[ssrc]), Section("v", True, ssrcs=[ssrc + 1], repairs={ssrc + 1: ssrc + 2})]
               for ssrc in (10, 20)]
     a.accept(b.answer(a.offer(wanted[0]), wanted[1]))
-    a.open_sender("a", 10, 111, first=100)
-    a.open_sender("v", 11, 96, first=100, mtu=30, limit=60)
-    b.open_receiver("a", 10, 111, 2)
-    b.open_receiver("v", 11, 96, 2)
+    streams = (a.open_sender("a", 10, 111, first=100), a.open_sender("v", 11, 96, first=100, mtu=30, limit=60),
+               b.open_receiver("a", 10, 111, 2), b.open_receiver("v", 11, 96, 2))
+    assert streams == (0, 1, 0, 1)
+    return a, b
+
+
+def talking(row: Row, extensions: dict[str, int] | None = None, is_video: bool = False) -> tuple[End, End]:
+    """Two ends that agreed on one section; no stream is open."""
+    a, b = (End([row], extensions, session) for session in (1, 2))
+    a.accept(b.answer(a.offer([Section("0", is_video, ssrcs=[1])]), [Section("0", is_video, ssrcs=[2])]))
     return a, b
 
 
@@ -196,6 +202,150 @@ class Ends(unittest.TestCase):
     def test_default_rows(self) -> None:
         offer = End(default_rows=True).offer([Section("0", True, Direction.SENDONLY, [7])])
         self.assertIn("VP8/90000", offer)
+
+
+class EachThing(unittest.TestCase):
+    """Each number and each flag that calls are given, and that they tell."""
+
+    SENT = Values(audio_level=-5, voice_activity=True, abs_send_time=1_500_000, transport_cc=77, video_orientation=3,
+                  play_delay_min=1, play_delay_max=4095, video_content_type=1, capture_time=1 << 40, clock_offset=-9)
+    IDS = ExtensionIds(**{name: number for number, name in enumerate(EXTENSIONS, 1)})
+
+    def test_values_travel(self) -> None:
+        a, b = talking(OPUS, {uri: number for number, uri in enumerate(EXTENSIONS.values(), 1)})
+        a.open_sender("0", 1, 111)
+        b.open_receiver("0", 1, 111, 2)
+        [datagram] = a.push_sample(0, 960, b"abc", self.SENT, "0")
+        sent_on = a.send_packet(0, 700, 5, False, b"abc", self.SENT, "0")
+        for each in (datagram, sent_on):
+            arrival = b.arrival(each)
+            assert isinstance(arrival, Arrival)
+            self.assertEqual((arrival.values, arrival.payload), (self.SENT, b"abc"))
+            self.assertEqual(read_values(each, self.IDS)[0], self.SENT)
+        b.receive(datagram)
+        self.assertEqual([unit.data for unit in b.units(0)], [b"abc"])
+        self.assertEqual(b.values(), self.SENT)
+
+    def test_no_value_is_told_in_place_of_none(self) -> None:
+        a, b = talking(OPUS, {uri: number for number, uri in enumerate(EXTENSIONS.values(), 1)})
+        a.open_sender("0", 1, 111)
+        b.open_receiver("0", 1, 111, 2)
+        for datagram in (a.push_sample(0, 960, b"abc")[0], a.send_packet(0, 700, 5, False, b"abc")):
+            self.assertEqual(read_values(datagram, self.IDS)[0], Values())
+            arrival = b.arrival(datagram)
+            assert isinstance(arrival, Arrival)
+            self.assertEqual(arrival.values, Values())
+
+    def test_what_units_tell(self) -> None:
+        # VP8's descriptor with picture id 5 and TL0PICIDX 7 (RFC 7741 4.2).
+        frame = bytes([0x90, 0xe0, 5, 7, 0x20, 0x10, 1, 2])
+        reports = bytes([5, 0x8a, 0x03, 0x20])
+        wanted = Event(5, True, 10, 100_000_000)
+        receiver = Receiver("VP8", Format(90000), 2)
+        receiver.push(1, 0, True, frame)
+        unit = receiver.poll()
+        assert unit is not None
+        self.assertEqual((unit.picture_id, unit.base_layer, unit.event, unit.data), (5, 7, None, frame[5:]))
+        receiver = Receiver("telephone-event", Format(8000), 0)
+        receiver.push(1, 160, True, reports)
+        unit = receiver.poll()
+        assert unit is not None
+        self.assertEqual((unit.event, unit.picture_id, unit.base_layer), (wanted, None, None))
+        depacketizer = Depacketizer("VP8", Format(90000), 2)
+        depacketizer.push(1, 0, True, frame)
+        unit = depacketizer.pop()
+        assert unit is not None
+        self.assertEqual((unit.picture_id, unit.base_layer, unit.event), (5, 7, None))
+        for row, is_video, payload, told in ((Row(96, "VP8", 90000), True, frame, (5, 7, None)),
+                                             (Row(96, "telephone-event", 8000, format="0-16"), False, reports, (None, None, wanted))):
+            a, b = talking(row, is_video=is_video)
+            a.open_sender("0", 1, 96)
+            b.open_receiver("0", 1, 96, 2)
+            b.receive(a.send_packet(0, 1, 160, True, payload))
+            [unit] = b.units(0)
+            self.assertEqual((unit.picture_id, unit.base_layer, unit.event), told)
+
+    def test_picture_ids_and_forms_for_browsers(self) -> None:
+        frame = bytes([0x10, 1, 2, 3])
+        descriptors = {(None, False): "10", (0, False): "10", (0, True): "908000", (300, False): "9080812c"}
+        for (picture_id, for_browsers), head in descriptors.items():
+            wanted = bytes.fromhex(head)
+            packetizer = Packetizer("VP8", Format(90000), picture_id=picture_id, for_browsers=for_browsers)
+            self.assertEqual(packetizer.packetize(100, frame)[0].payload, wanted + frame)
+            sender = Sender("VP8", Format(90000), 1, 96, 100, picture_id=picture_id, for_browsers=for_browsers)
+            self.assertEqual(sender.push_sample(0, frame)[0][12:], wanted + frame)
+            a, _ = talking(Row(96, "VP8", 90000), is_video=True)
+            a.open_sender("0", 1, 96, picture_id=picture_id, for_browsers=for_browsers)
+            self.assertEqual(a.push_sample(0, 0, frame)[0][12:], wanted + frame)
+
+    def test_formats(self) -> None:
+        speech = bytes([0x44, *range(59), 0x38])  # of 477 bits
+        unit = bytes([0, 0, 0, 1, 0x26, 1, *range(40)])
+        for codec, sample, formats in (
+                ("AMR-WB", speech, [Format(16000), Format(16000, octet_align=False), Format(16000, octet_align=True)]),
+                ("H265", unit, [Format(90000), Format(90000, max_don_diff=0), Format(90000, max_don_diff=1)])):
+            payloads = [Packetizer(codec, form).packetize(1200, sample)[0].payload for form in formats]
+            self.assertEqual((payloads[0] == payloads[1], payloads[0] == payloads[2]), (True, False))
+            for form, payload in zip(formats, payloads):
+                sent = Sender(codec, form, 1, 96, 1200).push_sample(0, sample)
+                self.assertEqual([datagram[12:] for datagram in sent], [payload])
+                depacketizer, receiver = Depacketizer(codec, form, 2), Receiver(codec, form, 2)
+                depacketizer.push(1, 0, True, payload)
+                receiver.push(1, 0, True, payload)
+                for found in (depacketizer.pop(), receiver.poll()):
+                    assert found is not None
+                    self.assertEqual(found.data, sample)
+
+    def test_redundancy(self) -> None:
+        a, _ = talking(Row(111, "opus", 48000, channels=2, red=63))
+        a.open_sender("0", 1, 111, distances=[1, 2])
+        sent = [a.push_sample(0, 960 * k, bytes([k]))[0][12:] for k in range(3)]
+        # The type, and 14 bits of offset and 10 of length of each older payload (RFC 2198 3).
+        self.assertEqual(sent[2].hex(), "ef1e0001ef0f00016f000102")
+
+    def test_unsignalled_streams(self) -> None:
+        a, b = (End([OPUS], session=session) for session in (1, 2))
+        a.accept(b.answer(a.offer([Section("0", False)]), [Section("0", False, ssrcs=[2])]))
+        b.open_sender("0", 2, 111)
+        [first, second, third, fourth] = [b.push_sample(0, 960 * k, bytes([k]))[0] for k in range(4)]
+        with self.assertRaises(Refused) as raised:
+            a.open_unsignalled("0", 7, 111, 1)
+        self.assertEqual(raised.exception.code, Code.SSRC_NOT_NAMED)
+        c = End([OPUS], session=3)
+        c.accept(End([OPUS], session=4).answer(c.offer([Section("0", False, ssrcs=[9])]), [Section("0", False)]))
+        c.open_sender("0", 9, 111)
+        self.assertEqual((c.open_unsignalled("0", 7, 111, 1), c.open_unsignalled("0", 2, 111, 0)), (1, 2))
+        self.assertEqual(c.receive(first), Taken(2, 0))
+        self.assertEqual([unit.data for unit in c.units(2)], [b"\0"])
+        sender = Sender("opus", Format(48000), ssrc=7, payload_type=111, mtu=100)
+        held = [sender.push_sample(960 * k, bytes([k]))[0] for k in range(4)]
+        self.assertEqual([c.receive(held[0]), c.receive(held[2])], [Taken(1, 0), Taken(1, 2)])
+        self.assertEqual([unit.data for unit in c.units(1)], [b"\0"])  # one frame is held back
+        self.assertEqual(c.receive(held[3]), Taken(1, 3))
+        self.assertEqual([unit.data for unit in c.units(1)], [b"\2", b"\3"])
+
+    def test_candidates(self) -> None:
+        browser, end = End([OPUS], session=1), End([OPUS], session=2)
+        own = browser.offer([Section("0", False, ssrcs=[44])])
+        offer = browser.for_browser(own, Setup.ACTPASS, "abcd", "passwordpasswordpassword", bytes([1]))
+        wanted = [f"candidate:{k} 1 udp 2122260223 192.0.2.{k} {5000 + k} typ host" for k in (1, 2)]
+        end.answer_browser(offer + "".join(f"a={line}\r\n" for line in wanted), [SectionRequest()])
+        self.assertEqual(end.remote().candidates, tuple(wanted))
+
+    def test_memory_is_given_back(self) -> None:
+        a, b = agreed()
+        datagrams = [a.push_sample(0, 960 * k, bytes([k]) * 10)[0] for k in range(6)]
+        for k in (0, 2, 4):
+            b.receive(datagrams[k])
+        self.assertEqual([unit.data[0] for unit in b.units(0)], [0])
+        self.assertEqual((b.missing(0), b.is_passed(0, 102)), ([101, 103], False))
+        b.keep_within(0, 10)
+        self.assertEqual((b.missing(0), b.is_passed(0, 102)), ([103], True))
+
+    def test_a_rest_that_is_not_read(self) -> None:
+        head = "v=0\r\no=- 1 2 IN IP4 0.0.0.0\r\ns=-\r\nt=0 0\r\n"
+        line = "x=" + "1" * 300
+        self.assertEqual(faulty_line(f"{head}{line}\r\n"), FaultyLine(5, line, LineFault.STRAY))
 
 
 class Forwarding(unittest.TestCase):
