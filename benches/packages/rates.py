@@ -9,10 +9,11 @@ from jilqamur import End, Row, Section
 MTU = 1200
 SLICES = 60
 
+H264 = "packetization-mode=1;profile-level-id=42001f"
 LINES = [("opus", Row(111, "opus", 48000, channels=2), False, b"", 120),
-         ("VP8", Row(111, "VP8", 90000), True, b"", 12000),
-         ("H264", Row(111, "H264", 90000, format="packetization-mode=1;profile-level-id=42001f"), True,
-          b"\0\0\0\1\x65", 12000)]
+         *((name, Row(111, name, 90000, format=form), True, head, size) for size in (12000, 196000)
+           for name, form, head in (("VP8", "", b""), ("VP9", "profile-id=0", b"\x82\x49\x83\x42"),
+                                    ("H264", H264, b"\0\0\0\1\x65")))]
 
 
 def fastest(part: Callable[[], object]) -> int:

@@ -1,6 +1,7 @@
 package jilqamur_test
 
 import (
+	"errors"
 	"fmt"
 	"log"
 
@@ -67,6 +68,41 @@ func ExampleSender() {
 	// Output: 960 [1 2 3]
 }
 
+// Datagrams are sent and received without garbage: each call uses the memory of the one before again.
+func ExampleEnd_AppendReceived() {
+	opus, err := jilqamur.NewRow("opus", 111)
+	check(err)
+	a, err := jilqamur.NewEnd(jilqamur.Config{Rows: []jilqamur.Row{opus}, Session: 1})
+	check(err)
+	b, err := jilqamur.NewEnd(jilqamur.Config{Rows: []jilqamur.Row{opus}, Session: 2})
+	check(err)
+	offer, err := a.Offer(jilqamur.Section{Mid: "0", SSRCs: []uint32{44}})
+	check(err)
+	answer, err := b.Answer(offer, jilqamur.Section{Mid: "0"})
+	check(err)
+	check(a.Accept(answer))
+	sender, err := a.OpenSender("0", 44, 111, jilqamur.StreamParams{MTU: 1200, Limit: 1400})
+	check(err)
+	_, err = b.OpenReceiver("0", 44, 111, jilqamur.ReceiverParams{HoldBack: 4})
+	check(err)
+	var datagrams [][]byte
+	var units []jilqamur.Unit
+	for k := byte(0); k < 2; k++ {
+		datagrams, err = a.AppendDatagrams(datagrams[:0], sender, 960*uint64(k), []byte{k, 2, 3}, jilqamur.Values{}, "")
+		check(err)
+		for _, datagram := range datagrams {
+			units, _, _, err = b.AppendReceived(units[:0], datagram)
+			check(err)
+			for _, unit := range units {
+				fmt.Println(unit.Time, unit.Bytes)
+			}
+		}
+	}
+	// Output:
+	// 0 [0 2 3]
+	// 960 [1 2 3]
+}
+
 // A browser's offer is answered, and the answer made one for the browser.
 func ExampleEnd_AnswerBrowser() {
 	end, err := jilqamur.NewEnd(jilqamur.Config{DefaultRows: true, Session: 7})
@@ -103,7 +139,7 @@ func ExampleForwarder() {
 // Each error has the name and the text of its code.
 func ExampleError() {
 	_, err := jilqamur.ReadHeader([]byte("x"))
-	fmt.Println(err == jilqamur.ErrUnreadable)
+	fmt.Println(errors.Is(err, jilqamur.ErrUnreadable))
 	fmt.Println(err)
 	// Output:
 	// true

@@ -180,6 +180,9 @@ class Refused(Exception):
         self.place = None if self.code in OF_THE_END else place
         super().__init__(TEXTS[self.code] if self.place is None else f"{TEXTS[self.code]} ({self.place})")
 
+    def __reduce__(self) -> tuple[type["Refused"], tuple[Code, Place | None]]:
+        return Refused, (self.code, self.place)
+
 
 def done(code: int, place: Place | None = None) -> None:
     """Nothing if the call was done; else it is raised why it wasn't, and what about."""

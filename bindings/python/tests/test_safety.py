@@ -363,6 +363,11 @@ class Places(unittest.TestCase):
         self.refused(lambda: End([OPUS], {"urn:a": 1, "urn:b c": 2}), Code.NOT_WRITABLE,
                      Place(extension=2, uri="urn:b c"))
 
+    def test_a_refusal_goes_to_other_processes(self) -> None:
+        refused = pickle.loads(pickle.dumps(Refused(Code.NO_STREAM, Place(stream=7))))
+        self.assertEqual((refused.code, refused.place, str(refused)),
+                         (Code.NO_STREAM, Place(stream=7), "no such stream is open (stream 7)"))
+
     def test_sections_and_streams(self) -> None:
         end = End([OPUS])
         said = self.refused(lambda: end.offer([Section("v", True, ssrcs=[44])]), Code.NO_COMMON_ROW, Place(mids=("v",)))
