@@ -37,5 +37,6 @@ pub mod StreamAnswers
 pub mod Told
 pub mod Units
 pub mod Values
+pub mod Versions
 pub mod Windows
 pub mod Requests

@@ -46,5 +46,6 @@ mod senders;
 mod sending;
 mod stream_fetch;
 mod values;
+mod version;
 mod windows;
 mod with_transport;
