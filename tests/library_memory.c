@@ -367,8 +367,9 @@ static void forwarder(void)
     ASK("forwarder_open", jilqamur_forwarder_open(&handle, 5));
     ASK("forwarder_switch", jilqamur_forwarder_switch(&handle, 1, 100, 0, 9));
     for (uint64_t k = 0; k < 6; k++) {
-        say("forward: %u\n", jilqamur_forwarder_forward(&handle, 1, 100 + 10 * k, 3, &placed));
+        say("forward: %u\n", jilqamur_forwarder_forward(&handle, 1, 100 + 10 * k, 3, true, &placed));
         say("%u at %u\n", (unsigned)placed.number, (unsigned)placed.timestamp);
+        ASK("forwarder_pass_empty", jilqamur_forwarder_pass_empty(&handle, 1, 101 + 10 * k));
         ASK("forwarder_skip_to", jilqamur_forwarder_skip_to(&handle, 110 + 10 * k));
         say("next: %u, %u\n", jilqamur_forwarder_next(&handle, &next), (unsigned)next);
     }

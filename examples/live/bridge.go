@@ -91,6 +91,23 @@ func (r *room) forward(in *inbound, number uint64, now time.Time) {
 	}
 }
 
+// endsFrame tells whether a packet is the last one of its frame.
+func (in *inbound) endsFrame(p packet) bool {
+	info, err := jilqamur.PacketInfoOf(in.row.Codec, p.payload, p.marker)
+	return err != nil || info.IsTail
+}
+
+// passEmpty leaves the number of a packet of padding out of what is sent on.
+func (r *room) passEmpty(in *inbound, number uint64) {
+	for _, other := range r.peers {
+		for _, s := range other.sections {
+			if s.out != nil && s.out.source == in && s.out.isOn {
+				_ = s.out.forwarder.PassEmpty(in.id(), number)
+			}
+		}
+	}
+}
+
 // id is the number of a source for forwarders.
 func (in *inbound) id() uint64 { return uint64(in.peer.id)<<32 | uint64(in.stream) }
 
@@ -112,7 +129,7 @@ func (o *outbound) begin(in *inbound, number uint64, now time.Time) bool {
 
 // forward sends a packet on, under the number and timestamp of its place.
 func (o *outbound) forward(in *inbound, number uint64, p packet, now time.Time) {
-	placed, err := o.forwarder.Forward(in.id(), number, p.timestamp)
+	placed, err := o.forwarder.Forward(in.id(), number, p.timestamp, in.endsFrame(p))
 	if err != nil {
 		return // it comes from before the key frame
 	}

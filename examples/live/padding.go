@@ -21,7 +21,9 @@ func (p *peer) padded(datagram []byte, now time.Time) {
 			return
 		}
 		in.gaps.took(number, now)
-		if !p.room.isBridge {
+		if p.room.isBridge {
+			p.room.passEmpty(in, number)
+		} else {
 			in.empty = append(in.empty, number)
 			in.passEmpty()
 			p.echo(in, p.end.Poll, now)

@@ -278,23 +278,30 @@ static void forwarder(void)
     uint64_t next = 0;
     check(jilqamur_forwarder_open(&forwarder, 1000));
     check(jilqamur_forwarder_switch(&forwarder, 7, 500, 90000, 3000));
-    check(jilqamur_forwarder_forward(&forwarder, 7, 502, 93000, &placed));
+    check(jilqamur_forwarder_forward(&forwarder, 7, 502, 93000, true, &placed));
     printf("forwarded %" PRIu64 " at %" PRIu32 "\n", placed.number, placed.timestamp);
     check(jilqamur_forwarder_place(&forwarder, 7, 504, 96000, &placed));
     printf("placed %" PRIu64 " at %" PRIu32 "\n", placed.number, placed.timestamp);
     check(jilqamur_forwarder_next(&forwarder, &next));
     printf("next %" PRIu64 "\n", next);
     check(jilqamur_forwarder_skip_to(&forwarder, 510));
-    check(jilqamur_forwarder_forward(&forwarder, 7, 511, 99000, &placed));
+    check(jilqamur_forwarder_forward(&forwarder, 7, 511, 99000, true, &placed));
     printf("forwarded %" PRIu64 " at %" PRIu32 "\n", placed.number, placed.timestamp);
     check(jilqamur_forwarder_end_at(&forwarder, 514));
     check(jilqamur_forwarder_next(&forwarder, &next));
     printf("next %" PRIu64 "\n", next);
     check(jilqamur_forwarder_switch(&forwarder, 8, 20, 4294967295, 0));
-    check(jilqamur_forwarder_forward(&forwarder, 8, 20, 2, &placed));
+    check(jilqamur_forwarder_forward(&forwarder, 8, 20, 2, false, &placed));
     printf("forwarded %" PRIu64 " at %" PRIu32 "\n", placed.number, placed.timestamp);
     printf("gone %d\n", jilqamur_forwarder_place(&forwarder, 9, 1, 1, &placed) == JILQAMUR_NOTHING);
-    printf("gone %d\n", jilqamur_forwarder_forward(&forwarder, 7, 505, 1, &placed) == JILQAMUR_NOTHING);
+    printf("gone %d\n", jilqamur_forwarder_forward(&forwarder, 7, 505, 1, true, &placed) == JILQAMUR_NOTHING);
+    printf("passed %d %d\n", jilqamur_forwarder_pass_empty(&forwarder, 8, 21) == JILQAMUR_OK,
+           jilqamur_forwarder_pass_empty(&forwarder, 8, 24) == JILQAMUR_OK);
+    check(jilqamur_forwarder_forward(&forwarder, 8, 22, 5, false, &placed));
+    printf("forwarded %" PRIu64 " at %" PRIu32 "\n", placed.number, placed.timestamp);
+    check(jilqamur_forwarder_switch(&forwarder, 7, 600, 1, 9));
+    check(jilqamur_forwarder_forward(&forwarder, 7, 600, 1, true, &placed));
+    printf("forwarded %" PRIu64 " at %" PRIu32 "\n", placed.number, placed.timestamp);
     check(jilqamur_forwarder_close(&forwarder));
 }
 
@@ -302,6 +309,7 @@ void ends(void);
 
 int main(void)
 {
+    printf("version %d\n", jilqamur_version() == JILQAMUR_VERSION_NUMBER);
     headers();
     names();
     infos();

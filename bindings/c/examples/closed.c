@@ -45,7 +45,8 @@ static void of_codecs(void)
     SAY(jilqamur_receiver_drain(&receiver));
     SAY(jilqamur_receiver_unit(&receiver, bytes, 9, &size, &unit));
     SAY(jilqamur_forwarder_place(&forwarder, 0, 0, 0, &placed));
-    SAY(jilqamur_forwarder_forward(&forwarder, 0, 0, 0, &placed));
+    SAY(jilqamur_forwarder_forward(&forwarder, 0, 0, 0, true, &placed));
+    SAY(jilqamur_forwarder_pass_empty(&forwarder, 0, 0));
 }
 
 static void of_closed(void)

@@ -444,7 +444,10 @@ static void of_forwarders(void)
         CALL(forwarder_place, forwarder, source, number, time, &placed);
         break;
     default:
-        CALL(forwarder_forward, forwarder, source, number, time, &placed);
+        if (!below(4))
+            CALL(forwarder_pass_empty, forwarder, source, number);
+        else
+            CALL(forwarder_forward, forwarder, source, number, time, below(2), &placed);
     }
 }
 

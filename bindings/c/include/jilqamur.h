@@ -26,7 +26,8 @@ extern "C" {
 #endif
 
 /* The version, which is that of the whole project (CHANGELOG.md says how it counts). */
-#define JILQAMUR_VERSION "0.9.0"
+#define JILQAMUR_VERSION "0.10.0"
+#define JILQAMUR_VERSION_NUMBER 1000 /* 10,000 times the first part, 100 times the second, and the third */
 
 /* The bytes of a literal text and their count, for a parameter of bytes and the one of their length. */
 #define JILQAMUR_TEXT(literal) (const uint8_t *)("" literal), sizeof(literal) - 1
@@ -191,6 +192,9 @@ typedef struct jilqamur_header {
     uint32_t csrc[15];        /* they; the places past csrc_count are 0 in a header that was read */
     size_t header_len;        /* bytes of a header that was read; not looked at in one that is written */
 } jilqamur_header;
+
+/* The version of the library that is linked, which is JILQAMUR_VERSION_NUMBER if this header belongs to it. */
+uint32_t jilqamur_version(void);
 
 /* Reads the header in front of a datagram of len bytes: JILQAMUR_OK, or JILQAMUR_UNREADABLE, and header is unchanged.
  * header_len of what was read is at most len. */
@@ -828,14 +832,14 @@ uint32_t jilqamur_forwarder_open(jilqamur_forwarder *forwarder, uint64_t first);
 uint32_t jilqamur_forwarder_close(jilqamur_forwarder *forwarder);
 
 /* Goes over to a source, any number that the caller gives it, from its packet of this number and timestamp on, which
- * gets the timestamp at and the next number. Between two frames of the source before. JILQAMUR_MEMORY, and nothing has
- * changed. */
+ * gets the timestamp at and the next number; one number is left free before it if the last packet wasn't sent on as the
+ * end of its frame, so that no receiver joins packets of two sources. JILQAMUR_MEMORY, and nothing has changed. */
 uint32_t jilqamur_forwarder_switch(jilqamur_forwarder *forwarder, uint64_t source, uint64_t number, uint32_t timestamp,
                                    uint32_t at);
 
-/* Leaves out what the source that is sent on last sends before the packet of this number, which gets the next number;
- * timestamps stay those of the source's clock. Before the first switch it does nothing. JILQAMUR_MEMORY, and nothing
- * has changed. */
+/* Leaves out what the source that is sent on last sends before the packet of this number, which gets the next number,
+ * after one that is left free as by jilqamur_forwarder_switch; timestamps stay those of the source's clock. Before the
+ * first switch it does nothing. JILQAMUR_MEMORY, and nothing has changed. */
 uint32_t jilqamur_forwarder_skip_to(jilqamur_forwarder *forwarder, uint64_t number);
 
 /* Says that what is sent on of the last source ends before its packet of this number: the next piece begins where that
@@ -847,9 +851,16 @@ uint32_t jilqamur_forwarder_end_at(jilqamur_forwarder *forwarder, uint64_t numbe
 uint32_t jilqamur_forwarder_place(jilqamur_forwarder *forwarder, uint64_t source, uint64_t number, uint32_t timestamp,
                                   jilqamur_placed *placed);
 
-/* The same, and the number is given: the next piece begins above it. */
+/* The same, and the number is given: the next piece begins above it. ends says whether the packet is the last one of
+ * its frame: for video jilqamur_payload_info tells it (is_tail), for audio it is true. */
 uint32_t jilqamur_forwarder_forward(jilqamur_forwarder *forwarder, uint64_t source, uint64_t number, uint32_t timestamp,
-                                    jilqamur_placed *placed);
+                                    bool ends, jilqamur_placed *placed);
+
+/* Leaves a source's packet out that carries nothing to send on, as one of only padding, between two frames:
+ * JILQAMUR_OK, and the source's packet after it gets the number that it would have; JILQAMUR_NOTHING if it wouldn't get
+ * the next number, and it may be told again after the packets before it; or JILQAMUR_MEMORY. Nothing has changed unless
+ * it is JILQAMUR_OK. */
+uint32_t jilqamur_forwarder_pass_empty(jilqamur_forwarder *forwarder, uint64_t source, uint64_t number);
 
 /* Tells the first number above all those that were given. */
 uint32_t jilqamur_forwarder_next(jilqamur_forwarder *forwarder, uint64_t *next);

@@ -128,7 +128,7 @@ func ExampleForwarder() {
 	forwarder, err := jilqamur.NewForwarder(1)
 	check(err)
 	check(forwarder.Switch(7, 500, 90000, 3000))
-	placed, err := forwarder.Forward(7, 502, 93000)
+	placed, err := forwarder.Forward(7, 502, 93000, true)
 	check(err)
 	next, err := forwarder.Next()
 	check(err)

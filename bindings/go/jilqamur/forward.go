@@ -108,7 +108,7 @@ func NewForwarder(first uint64) (*Forwarder, error) {
 }
 
 // Switch goes over to a source, from its packet of this number and timestamp on, which gets the timestamp at and the
-// next number. Call it between two frames of the source before.
+// next number; one number is left free before it if the last packet wasn't sent on as the end of its frame.
 func (f *Forwarder) Switch(source, number uint64, timestamp, at uint32) error {
 	return f.own().use(func(forwarder *C.jilqamur_forwarder) C.uint32_t {
 		return C.jilqamur_forwarder_switch(forwarder, C.uint64_t(source), C.uint64_t(number), C.uint32_t(timestamp),
@@ -143,14 +143,24 @@ func (f *Forwarder) Place(source, number uint64, timestamp uint32) (Placed, erro
 	return Placed{uint64(placed.number), uint32(placed.timestamp)}, err
 }
 
-// Forward is the same, and the number is given: the next piece begins above it.
-func (f *Forwarder) Forward(source, number uint64, timestamp uint32) (Placed, error) {
+// Forward is the same, and the number is given: the next piece begins above it. ends says whether the packet is the
+// last one of its frame: for video [PacketInfo] tells it, for audio it is true.
+func (f *Forwarder) Forward(source, number uint64, timestamp uint32, ends bool) (Placed, error) {
 	var placed C.jilqamur_placed
 	err := f.own().use(func(forwarder *C.jilqamur_forwarder) C.uint32_t {
 		return C.jilqamur_forwarder_forward(forwarder, C.uint64_t(source), C.uint64_t(number), C.uint32_t(timestamp),
-			&placed)
+			C.bool(ends), &placed)
 	})
 	return Placed{uint64(placed.number), uint32(placed.timestamp)}, err
+}
+
+// PassEmpty leaves a source's packet out that carries nothing to send on, as one of only padding, between two frames:
+// the source's packet after it gets the number that it would have. It returns [ErrNothing] if the packet wouldn't get
+// the next number: call it again after the packets before it.
+func (f *Forwarder) PassEmpty(source, number uint64) error {
+	return f.own().use(func(forwarder *C.jilqamur_forwarder) C.uint32_t {
+		return C.jilqamur_forwarder_pass_empty(forwarder, C.uint64_t(source), C.uint64_t(number))
+	})
 }
 
 // Next is the first number above all those that were given.

@@ -48,8 +48,20 @@ type owner[H any] struct {
 	owned *owned[H]
 }
 
+// ErrVersion says that the library that is linked isn't of this package's version.
+var ErrVersion = errors.New("jilqamur: the library is of another version than the package")
+
+// Version is the version of the library that is linked: its three parts.
+func Version() (major, minor, patch int) {
+	number := int(C.jilqamur_version())
+	return number / 10000, number / 100 % 100, number % 100
+}
+
 // open opens a handle.
 func (o *owner[H]) open(open, free func(*H) C.uint32_t) error {
+	if C.jilqamur_version() != C.JILQAMUR_VERSION_NUMBER {
+		return ErrVersion
+	}
 	handle := (*H)(C.new_handle())
 	if handle == nil {
 		return ErrMemory

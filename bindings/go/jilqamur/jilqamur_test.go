@@ -192,7 +192,7 @@ func TestForwarding(t *testing.T) {
 	_, err = forwarder.Place(7, number, arrival.Timestamp)
 	refused(t, err, ErrNothing)
 	equal(t, forwarder.Switch(7, number, arrival.Timestamp, 77), nil)
-	placed := must[Placed](t)(forwarder.Forward(7, number, arrival.Timestamp))
+	placed := must[Placed](t)(forwarder.Forward(7, number, arrival.Timestamp, true))
 	sent := must[[]byte](t)(a.SendPacket(0, Forwarded{Placed: placed, Marker: true, Payload: arrival.Payload, Mid: "a"}))
 	header := must[Header](t)(ReadHeader(sent))
 	equal(t, []any{header.SequenceNumber, header.Timestamp, header.Marker, header.SSRC},
@@ -206,11 +206,11 @@ func TestForwarding(t *testing.T) {
 func TestAForwarderSkipsAndEnds(t *testing.T) {
 	forwarder := must[*Forwarder](t)(NewForwarder(1000))
 	equal(t, forwarder.Switch(7, 500, 90000, 3000), nil)
-	equal(t, must[Placed](t)(forwarder.Forward(7, 502, 93000)), Placed{1002, 6000})
+	equal(t, must[Placed](t)(forwarder.Forward(7, 502, 93000, true)), Placed{1002, 6000})
 	equal(t, must[Placed](t)(forwarder.Place(7, 504, 96000)), Placed{1004, 9000})
 	equal(t, must[uint64](t)(forwarder.Next()), uint64(1003))
 	equal(t, forwarder.SkipTo(510), nil)
-	equal(t, must[Placed](t)(forwarder.Forward(7, 511, 99000)), Placed{1004, 12000})
+	equal(t, must[Placed](t)(forwarder.Forward(7, 511, 99000, true)), Placed{1004, 12000})
 	equal(t, forwarder.EndAt(514), nil)
 	equal(t, must[uint64](t)(forwarder.Next()), uint64(1007))
 }

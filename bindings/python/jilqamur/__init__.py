@@ -16,13 +16,14 @@ doesn't fit its field, and `TypeError` for what isn't of the kind that is wanted
 
 from .codes import Code, Place, Refused
 from .ends import End
+from .library import VERSION
 from .sections import (AgreedSection, Arrival, Direction, Remote, Section, SectionRequest, Setup, Taken, Verdict)
 from .streams import Depacketizer, Forwarder, Packet, Packetizer, Placed, Receiver, Sender, Window
 from .structs import ExtensionIds, Header
 from .values import (EXTENSIONS, MAX_HELD, MIN_HELD, Event, FaultyLine, Format, LineFault, Names, PacketInfo, Row, Unit,
                      Values, faulty_line, packet_info, payload_of, read_header, read_values, widen, write_header)
 
-__version__ = "0.9.0"
+__version__ = VERSION
 
 __all__ = [
     "AgreedSection", "Arrival", "Code", "Depacketizer", "Direction", "EXTENSIONS", "End", "Event", "ExtensionIds",

@@ -14,6 +14,9 @@ from .structs import (ArrivalStruct, ExtensionIds, FormatStruct, Handle, Header,
 
 NAME = "libjilqamur.so.0"
 
+# The version of the package, which is that of the library.
+VERSION = "0.10.0"
+
 T = TypeVar("T")
 
 
@@ -31,6 +34,7 @@ SIZE, NUMBER = POINTER(c_size_t), POINTER(c_uint64)
 
 # Each call with its parameters; all but one answer 32 bits.
 CALLS: dict[str, list[Any]] = {
+    "version": [],
     "header_read": [*TEXT, POINTER(Header)],
     "header_write": [POINTER(Header), *OUT],
     "header_values": [*TEXT, POINTER(ExtensionIds), POINTER(ValuesStruct), POINTER(NamesStruct)],
@@ -113,7 +117,8 @@ CALLS: dict[str, list[Any]] = {
     "forwarder_skip_to": [HANDLE, c_uint64],
     "forwarder_end_at": [HANDLE, c_uint64],
     "forwarder_place": [HANDLE, c_uint64, c_uint64, c_uint32, POINTER(PlacedStruct)],
-    "forwarder_forward": [HANDLE, c_uint64, c_uint64, c_uint32, POINTER(PlacedStruct)],
+    "forwarder_forward": [HANDLE, c_uint64, c_uint64, c_uint32, c_bool, POINTER(PlacedStruct)],
+    "forwarder_pass_empty": [HANDLE, c_uint64, c_uint64],
     "forwarder_next": [HANDLE, NUMBER],
 }
 
@@ -145,6 +150,17 @@ class Library:
 
 
 lib = Library()
+
+
+def fit() -> None:
+    """Raises ImportError if the library is of another version than the package."""
+    number = lib.version()
+    version = f"{number // 10000}.{number // 100 % 100}.{number % 100}"
+    if version != VERSION:
+        raise ImportError(f"the package is of version {VERSION}, and the library of {version}")
+
+
+fit()
 
 SIZES = [c_size_t(number) for number in range(2048)]
 MOST_ROOM = 1 << 20

@@ -220,10 +220,10 @@ class Forwarder(Owner):
         with self._lock:
             done(lib.forwarder_end_at(self._at, u64("number", number)))
 
-    def _placed(self, call: Callable[..., int], source: int, number: int, timestamp: int) -> Placed | None:
+    def _placed(self, call: Callable[..., int], source: int, number: int, timestamp: int, *more: bool) -> Placed | None:
         told = PlacedStruct()
         with self._lock:
-            code = call(self._at, u64("source", source), u64("number", number), u32("timestamp", timestamp),
+            code = call(self._at, u64("source", source), u64("number", number), u32("timestamp", timestamp), *more,
                         byref(told))
         if code == Code.NOTHING:
             return None
@@ -234,9 +234,21 @@ class Forwarder(Owner):
         """Under which number and timestamp a source's packet of these is sent on; None if it isn't."""
         return self._placed(lib.forwarder_place, source, number, timestamp)
 
-    def forward(self, source: int, number: int, timestamp: int) -> Placed | None:
-        """The same, and the number is given: the next piece begins above it."""
-        return self._placed(lib.forwarder_forward, source, number, timestamp)
+    def forward(self, source: int, number: int, timestamp: int, ends: bool) -> Placed | None:
+        """The same, and the number is given: the next piece begins above it. `ends` says whether the packet is the last
+        one of its frame: for video `PacketInfo` tells it, for audio it is true."""
+        return self._placed(lib.forwarder_forward, source, number, timestamp, bool(ends))
+
+    def pass_empty(self, source: int, number: int) -> bool:
+        """Leaves a source's packet out that carries nothing to send on, as one of only padding, between two frames. If
+        it would get the next number, the source's packet after it gets that number, and True is returned. Otherwise
+        nothing changes: call this again after the packets before it."""
+        with self._lock:
+            code = lib.forwarder_pass_empty(self._at, u64("source", source), u64("number", number))
+        if code == Code.NOTHING:
+            return False
+        done(code)
+        return True
 
     def next(self) -> int:
         """The first number above all those that were given."""

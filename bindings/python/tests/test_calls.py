@@ -353,10 +353,10 @@ class Forwarding(unittest.TestCase):
         forwarder = Forwarder(1000)
         self.assertIsNone(forwarder.place(7, 500, 0))
         forwarder.switch(7, 500, 90000, 3000)
-        self.assertEqual(forwarder.forward(7, 502, 93000), Placed(1002, 6000))
+        self.assertEqual(forwarder.forward(7, 502, 93000, True), Placed(1002, 6000))
         self.assertEqual((forwarder.place(7, 504, 96000), forwarder.next()), (Placed(1004, 9000), 1003))
         forwarder.skip_to(510)
-        self.assertEqual(forwarder.forward(7, 511, 99000), Placed(1004, 12000))
+        self.assertEqual(forwarder.forward(7, 511, 99000, True), Placed(1004, 12000))
         forwarder.end_at(514)
         self.assertEqual(forwarder.next(), 1007)
 

@@ -286,17 +286,22 @@ fn forwarder() -> Done {
         println!("{what} {} at {}", placed.number, placed.timestamp);
     };
     forwarder.switch(7, 500, 90_000, 3000)?;
-    placed("forwarded", forwarder.forward(7, 502, 93_000));
+    placed("forwarded", forwarder.forward(7, 502, 93_000, true));
     placed("placed", forwarder.place(7, 504, 96_000));
     println!("next {}", forwarder.next());
     forwarder.skip_to(510)?;
-    placed("forwarded", forwarder.forward(7, 511, 99_000));
+    placed("forwarded", forwarder.forward(7, 511, 99_000, true));
     forwarder.end_at(514);
     println!("next {}", forwarder.next());
     forwarder.switch(8, 20, 4_294_967_295, 0)?;
-    placed("forwarded", forwarder.forward(8, 20, 2));
+    placed("forwarded", forwarder.forward(8, 20, 2, false));
     println!("gone {}", u8::from(forwarder.place(9, 1, 1).is_none()));
-    println!("gone {}", u8::from(forwarder.forward(7, 505, 1).is_none()));
+    println!("gone {}", u8::from(forwarder.forward(7, 505, 1, true).is_none()));
+    let mut passed = |number| forwarder.pass_empty(8, number).map(u8::from);
+    println!("passed {} {}", passed(21)?, passed(24)?);
+    placed("forwarded", forwarder.forward(8, 22, 5, false));
+    forwarder.switch(7, 600, 1, 9)?;
+    placed("forwarded", forwarder.forward(7, 600, 1, true));
     Ok(())
 }
 
@@ -646,6 +651,8 @@ fn ends() -> Done {
 }
 
 fn main() -> Done {
+    let (major, minor, patch) = jilqamur::version();
+    println!("version {}", u8::from((major, minor, patch) == (0, 10, 0)));
     headers();
     names();
     infos();

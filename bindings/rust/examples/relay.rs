@@ -27,7 +27,8 @@ impl Viewer {
             self.forwarder.switch(publisher, number, arrival.timestamp, self.next_time)?;
             self.seen = Some(publisher);
         }
-        let Some(placed) = self.forwarder.forward(publisher, number, arrival.timestamp) else { return Ok(None) };
+        let placed = self.forwarder.forward(publisher, number, arrival.timestamp, info.is_tail);
+        let Some(placed) = placed else { return Ok(None) };
         self.next_time = placed.timestamp.wrapping_add(3000); // by the clock, if publishers pause
         let packet = ForwardedPacket {
             number: placed.number,

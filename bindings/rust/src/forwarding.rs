@@ -190,7 +190,7 @@ pub struct Placed {
 /// ```
 /// let mut forwarder = jilqamur::Forwarder::new(1)?;
 /// forwarder.switch(7, 500, 90_000, 3_000)?;
-/// let placed = forwarder.forward(7, 502, 93_000).expect("it is sent on");
+/// let placed = forwarder.forward(7, 502, 93_000, true).expect("it is sent on");
 /// assert_eq!((placed.number, placed.timestamp), (3, 6_000));
 /// assert_eq!(forwarder.next(), 4);
 /// # Ok::<(), jilqamur::EndError>(())
@@ -211,7 +211,7 @@ impl Forwarder {
     }
 
     /// Goes over to a source, from its packet of this number and timestamp on, which gets the timestamp `at` and the
-    /// next number. Between two frames of the source before.
+    /// next number; one number is left free before it if the last packet wasn't sent on as the end of its frame.
     ///
     /// # Errors
     /// `Memory`; nothing has changed.
@@ -246,12 +246,28 @@ impl Forwarder {
         (answer == code::OK).then_some(placed)
     }
 
-    /// The same, and the number is given: the next piece begins above it.
-    pub fn forward(&mut self, source: u64, number: u64, timestamp: u32) -> Option<Placed> {
+    /// The same, and the number is given: the next piece begins above it. `ends` says whether the packet is the last
+    /// one of its frame: for video [`PacketInfo`](crate::PacketInfo) tells it, for audio it is true.
+    pub fn forward(&mut self, source: u64, number: u64, timestamp: u32, ends: bool) -> Option<Placed> {
         let mut placed = Placed::default();
+        let at = self.0.raw();
         // SAFETY: the handle is open, and what is written is a place of its own.
-        let answer = unsafe { sys::jilqamur_forwarder_forward(self.0.raw(), source, number, timestamp, &mut placed) };
+        let answer = unsafe { sys::jilqamur_forwarder_forward(at, source, number, timestamp, ends, &mut placed) };
         (answer == code::OK).then_some(placed)
+    }
+
+    /// Leaves a source's packet out that carries nothing to send on, as one of only padding, between two frames. If it
+    /// would get the next number, the source's packet after it gets that number, and true is returned. Otherwise
+    /// nothing changes: call this again after the packets before it.
+    ///
+    /// # Errors
+    /// `Memory`; nothing has changed.
+    pub fn pass_empty(&mut self, source: u64, number: u64) -> Result<bool, EndError> {
+        // SAFETY: the handle is open.
+        match unsafe { sys::jilqamur_forwarder_pass_empty(self.0.raw(), source, number) } {
+            code::NOTHING => Ok(false),
+            answer => done(answer).map(|()| true),
+        }
     }
 
     /// The first number above all those that were given.

@@ -36,6 +36,7 @@ mod streams;
 mod sys;
 mod units;
 mod values;
+mod version;
 
 pub use browsers::{Remote, SectionRequest, Setup, Transport};
 pub use builder::Builder;
@@ -52,6 +53,7 @@ pub use stream_handles::{ReceivingStream, SendingStream};
 pub use streams::{Format, Receiver, Sender, SenderParams};
 pub use units::{TelephoneEvent, Unit};
 pub use values::{ExtensionIds, Names, Values};
+pub use version::version;
 
 /// The least number of packets that a stream may be opened to hold at most.
 pub const MIN_HELD: usize = 4096;

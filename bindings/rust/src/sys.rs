@@ -192,6 +192,7 @@ unsafe extern "C" {
     pub(crate) fn jilqamur_end_skip_to(end: *mut RawHandle, stream: usize, number: u64) -> u32;
     pub(crate) fn jilqamur_end_close_sender(end: *mut RawHandle, stream: usize) -> u32;
     pub(crate) fn jilqamur_end_close_receiver(end: *mut RawHandle, stream: usize) -> u32;
+    pub(crate) fn jilqamur_version() -> u32;
     pub(crate) fn jilqamur_forwarder_open(forwarder: *mut RawHandle, first: u64) -> u32;
     pub(crate) fn jilqamur_forwarder_close(forwarder: *mut RawHandle) -> u32;
     pub(crate) fn jilqamur_forwarder_switch(
@@ -215,8 +216,10 @@ unsafe extern "C" {
         source: u64,
         number: u64,
         timestamp: u32,
+        ends: bool,
         placed: *mut Placed,
     ) -> u32;
+    pub(crate) fn jilqamur_forwarder_pass_empty(forwarder: *mut RawHandle, source: u64, number: u64) -> u32;
     pub(crate) fn jilqamur_forwarder_next(forwarder: *mut RawHandle, next: *mut u64) -> u32;
     pub(crate) fn jilqamur_header_read(datagram: *const u8, len: usize, header: *mut Header) -> u32;
     pub(crate) fn jilqamur_header_write(header: *const Header, buffer: *mut u8, len: usize, needed: *mut usize) -> u32;

@@ -275,7 +275,8 @@ fn other(other: &mut Other, m: &mut Maker) {
         (Other::Receiver(receiver), _) => drop(receiver.drain()),
         (Other::Forwarder(forwarder), 0) => drop(forwarder.switch(number & 3, number, time, time)),
         (Other::Forwarder(forwarder), 1) => {
-            let _ = (forwarder.place(number & 3, number, time), forwarder.forward(number & 3, number, time));
+            let _ =
+                (forwarder.place(number & 3, number, time), forwarder.forward(number & 3, number, time, time & 1 == 0));
         }
         (Other::Forwarder(forwarder), _) => {
             forwarder.end_at(number);
