@@ -7,7 +7,7 @@ from typing import Any
 from .checks import U8, bytes_of, each_of, mid_of, u8, u16, u32, u64
 from .codes import Code, Place, Refused, done, done_of
 from .exchanges import Exchanges
-from .library import c_size_t, c_uint64, lib, size_at
+from .library import SIZES, c_size_t, c_uint64, lib, size_at
 from .sections import Arrival, Taken, Verdict, opening, verdict_of
 from .streams import picture
 from .structs import ArrivalStruct, StreamStruct, ValuesStruct
@@ -30,12 +30,13 @@ class End(Exchanges):
     _close = "end_close"
     _stream: c_size_t  # what a call says of a datagram that was taken
     _number: c_uint64
-    _taken_at: tuple[Any, Any]
+    _stream_at: Any
+    _number_at: Any
 
     def __new__(cls, *_: object, **__: object) -> Any:
         owner = super().__new__(cls)
         owner._stream, owner._number = c_size_t(), c_uint64()
-        owner._taken_at = byref(owner._stream), byref(owner._number)
+        owner._stream_at, owner._number_at = byref(owner._stream), byref(owner._number)
         return owner
 
     def __init__(self, rows: Iterable[Row] = (), extensions: Mapping[str, int] | None = None, session: int = 0,
@@ -121,9 +122,10 @@ class End(Exchanges):
 
     def receive(self, datagram: bytes) -> Taken | Verdict:
         """Takes a datagram, and says which stream took it, or what it is."""
-        datagram = bytes_of("datagram", datagram)
+        if type(datagram) is not bytes:
+            datagram = bytes_of("datagram", datagram)
         with self._lock:
-            code = RECEIVE(self._at, datagram, size_at(len(datagram)), *self._taken_at)
+            code = RECEIVE(self._at, datagram, size_at(len(datagram)), self._stream_at, self._number_at)
             if code == 0:
                 return new_tuple(Taken, (self._stream.value, self._number.value))
         return verdict_of(code)
@@ -131,20 +133,24 @@ class End(Exchanges):
     def receive_units(self, datagram: bytes) -> tuple[Taken | Verdict, list[Unit]]:
         """Takes a datagram, and returns what `receive` says of it, and the units of its stream that are ready then;
         frames that the codec can't read are passed over. It takes less time than `receive` and `units`."""
-        datagram = bytes_of("datagram", datagram)
+        if type(datagram) is not bytes:
+            datagram = bytes_of("datagram", datagram)
         found: list[Unit] = []
         with self._lock:
-            code = RECEIVE(self._at, datagram, size_at(len(datagram)), *self._taken_at)
-            if code == 0:
-                taken = new_tuple(Taken, (self._stream.value, self._number.value))
-                stream = size_at(taken[0])
-                while (code := POLL(self._at, stream)) != NOTHING:
-                    if code == 0:
-                        found.append(self._unit(END_UNIT))
-                    elif code != PAYLOAD:
-                        raise Refused(code, Place(stream=taken[0]))
-                return taken, found
-        return verdict_of(code), found
+            at, size = self._at, len(datagram)
+            size_given = SIZES[size] if size < 2048 else c_size_t(size)
+            code = RECEIVE(at, datagram, size_given, self._stream_at, self._number_at)
+            if code:
+                return verdict_of(code), found
+            number = self._stream.value
+            taken = new_tuple(Taken, (number, self._number.value))
+            stream = size_at(number)
+            while (code := POLL(at, stream)) != NOTHING:
+                if code == 0:
+                    found.append(self._unit(END_UNIT))
+                elif code != PAYLOAD:
+                    raise Refused(code, Place(stream=number))
+        return taken, found
 
     def _polled_of(self, poll: Callable[..., int], stream: int) -> Unit | None:
         number = u64("stream", stream)
