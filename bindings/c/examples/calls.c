@@ -246,6 +246,14 @@ static void poll(jilqamur_receiver *receiver, bool drains)
     say_unit(&unit, needed);
 }
 
+static void say_missing(jilqamur_receiver *receiver)
+{
+    uint64_t numbers[1023] = {0};
+    size_t needed = 0;
+    check(jilqamur_receiver_missing(receiver, numbers, 1023, &needed));
+    printf("missing %zu %" PRIu64 "\n", needed, numbers[0]);
+}
+
 static void receivers(void)
 {
     static const uint16_t numbers[] = {65535, 1, 1};
@@ -266,6 +274,14 @@ static void receivers(void)
     poll(&receiver, false);
     poll(&receiver, true);
     check(jilqamur_receiver_push(&receiver, 2, 270, true, payload, 1, &number));
+    poll(&receiver, false);
+    check(jilqamur_receiver_push(&receiver, 4, 360, true, payload, 3, &number));
+    say_missing(&receiver);
+    check(jilqamur_receiver_keep_within(&receiver, 2));
+    say_missing(&receiver);
+    check(jilqamur_receiver_push(&receiver, 6, 450, true, payload, 3, &number));
+    say_missing(&receiver);
+    check(jilqamur_receiver_pass_to(&receiver, 65541));
     poll(&receiver, false);
     check(jilqamur_receiver_close(&receiver));
     say("receiver", jilqamur_receiver_open(&receiver, &video, JILQAMUR_TEXT("VP8"), 3, 16385));

@@ -43,6 +43,9 @@ static void of_codecs(void)
     SAY(jilqamur_sender_datagram(&sender, 0, bytes, 9, &size));
     SAY(jilqamur_receiver_poll(&receiver));
     SAY(jilqamur_receiver_drain(&receiver));
+    SAY(jilqamur_receiver_missing(&receiver, &number, 1, &size));
+    SAY(jilqamur_receiver_pass_to(&receiver, 7));
+    SAY(jilqamur_receiver_keep_within(&receiver, 7));
     SAY(jilqamur_receiver_unit(&receiver, bytes, 9, &size, &unit));
     SAY(jilqamur_forwarder_place(&forwarder, 0, 0, 0, &placed));
     SAY(jilqamur_forwarder_forward(&forwarder, 0, 0, 0, true, &placed));

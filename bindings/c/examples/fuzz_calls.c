@@ -407,6 +407,15 @@ static void of_receivers(void)
     case 6:
         copied(CALL(receiver_unit, receiver, buffer.at, buffer.len, &needed, &unit), buffer, &needed);
         break;
+    case 7:
+        CALL(receiver_pass_to, receiver, below(70000));
+        CALL(receiver_keep_within, receiver, below(100));
+        break;
+    case 8: {
+        uint64_t numbers[1023];
+        CALL(receiver_missing, receiver, numbers, below(1024), &needed);
+        break;
+    }
     default:
         CALL(receiver_push, receiver, (uint16_t)below(200), (uint32_t)below(1000), flip(), payload.at, payload.len,
              &number);

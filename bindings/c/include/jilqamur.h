@@ -941,6 +941,18 @@ uint32_t jilqamur_receiver_poll(jilqamur_receiver *receiver);
 /* The same, whether or not a packet before the lowest complete unit is missing: for the end of a stream. */
 uint32_t jilqamur_receiver_drain(jilqamur_receiver *receiver);
 
+/* Copies the missing numbers, in increasing order, as jilqamur_end_missing those of an end's stream: JILQAMUR_OK; or
+ * JILQAMUR_TOO_SMALL, and the buffer is unchanged, while needed is their count; or JILQAMUR_MEMORY. */
+uint32_t jilqamur_receiver_missing(jilqamur_receiver *receiver, uint64_t *numbers, size_t len, size_t *needed);
+
+/* Passes all numbers up to this one: what waits of them is dropped, and the frame after it is next. */
+uint32_t jilqamur_receiver_pass_to(jilqamur_receiver *receiver, uint64_t number);
+
+/* Gives memory back, as jilqamur_end_keep_within of an end's stream: of the packets that wait those with the highest
+ * numbers stay, whose payloads have at most so many bytes together, and a fragment of more is given up. A call each time
+ * so many bytes came in keeps the stream within twice as many, whatever a peer sends. */
+uint32_t jilqamur_receiver_keep_within(jilqamur_receiver *receiver, size_t bytes);
+
 /* Copies the bytes of the unit that a poll or a drain left last, and tells of it, as jilqamur_end_unit. */
 uint32_t jilqamur_receiver_unit(jilqamur_receiver *receiver, uint8_t *buffer, size_t len, size_t *needed,
                                 jilqamur_unit *unit);

@@ -125,6 +125,27 @@ func TestACallWithoutTexts(t *testing.T) {
 	refused(t, err, ErrUnreadable)
 }
 
+func TestWhatAReceiverMissesAndGivesUp(t *testing.T) {
+	receiver := must[*Receiver](t)(NewReceiver("opus", Format{ClockRate: 48000}, ReceiverParams{HoldBack: 3}))
+	push := func(low uint16, payload ...byte) { must[uint64](t)(receiver.Push(low, 0, false, payload)) }
+	push(1, 1)
+	push(3, 3, 3, 3)
+	equal(t, must[*Unit](t)(receiver.Poll()).First, uint64(1))
+	equal(t, must[[]uint64](t)(receiver.Missing()), []uint64{2})
+	equal(t, receiver.KeepWithin(2), nil)
+	equal(t, must[[]uint64](t)(receiver.Missing()), []uint64{})
+	push(5, 5)
+	equal(t, must[[]uint64](t)(receiver.Missing()), []uint64{4})
+	equal(t, receiver.PassTo(4), nil)
+	equal(t, must[*Unit](t)(receiver.Poll()).First, uint64(5))
+	refused(t, receiver.KeepWithin(-1), ErrOutOfRange)
+}
+
+func TestTheVersionIsTold(t *testing.T) {
+	major, minor, patch := Version()
+	equal(t, []int{major, minor, patch}, []int{0, 10, 0})
+}
+
 func TestAFaultyLineIsTold(t *testing.T) {
 	const head = "v=0\r\no=- 1 2 IN IP4 0.0.0.0\r\ns=-\r\nt=0 0\r\n"
 	equal(t, must[Optional[FaultyLine]](t)(FaultyLineOf(head)), Optional[FaultyLine]{})

@@ -215,6 +215,17 @@ func TestAForwarderSkipsAndEnds(t *testing.T) {
 	equal(t, must[uint64](t)(forwarder.Next()), uint64(1007))
 }
 
+func TestAForwarderLeavesPaddingOut(t *testing.T) {
+	forwarder := must[*Forwarder](t)(NewForwarder(1000))
+	equal(t, forwarder.Switch(7, 500, 90000, 3000), nil)
+	equal(t, must[Placed](t)(forwarder.Forward(7, 500, 90000, true)), Placed{1000, 3000})
+	equal(t, forwarder.PassEmpty(7, 501), nil)
+	refused(t, forwarder.PassEmpty(7, 504), ErrNothing)
+	equal(t, must[Placed](t)(forwarder.Forward(7, 502, 93000, false)), Placed{1001, 6000})
+	equal(t, forwarder.Switch(8, 1, 0, 0), nil)
+	equal(t, must[Placed](t)(forwarder.Forward(8, 1, 0, true)), Placed{1003, 0})
+}
+
 func TestManyEndsAtOnce(t *testing.T) {
 	var group sync.WaitGroup
 	faults := make(chan error, 8)

@@ -3,6 +3,8 @@ package jilqamur
 // #include "calls.h"
 import "C"
 
+import "unsafe"
+
 // SenderParams say how a [Sender] numbers and cuts its samples.
 type SenderParams struct {
 	SSRC        uint32           // the stream's source
@@ -197,6 +199,39 @@ func (r *Receiver) unit(poll copying[C.jilqamur_receiver]) (*Unit, error) {
 	return owned.polled(poll, func(handle *C.jilqamur_receiver, at *C.uint8_t, size C.size_t, needed *C.size_t,
 		told *C.jilqamur_unit) C.uint32_t {
 		return C.jilqamur_receiver_unit(handle, at, size, needed, told)
+	})
+}
+
+// Missing is the missing numbers, in increasing order, as [End.Missing] those of an end's stream.
+func (r *Receiver) Missing() ([]uint64, error) {
+	var needed C.size_t
+	numbers := make([]uint64, mostMissing)
+	at := (*C.uint64_t)(unsafe.Pointer(&numbers[0]))
+	err := r.own().use(func(receiver *C.jilqamur_receiver) C.uint32_t {
+		return C.jilqamur_receiver_missing(receiver, at, mostMissing, &needed)
+	})
+	if err != nil {
+		return nil, err
+	}
+	return numbers[:needed:needed], nil
+}
+
+// PassTo passes all numbers up to this one: what waits of them is dropped, and the frame after it is next.
+func (r *Receiver) PassTo(number uint64) error {
+	return r.own().use(func(receiver *C.jilqamur_receiver) C.uint32_t {
+		return C.jilqamur_receiver_pass_to(receiver, C.uint64_t(number))
+	})
+}
+
+// KeepWithin gives memory back: of the packets that wait those with the highest numbers stay, whose payloads have at
+// most so many bytes together, and a fragment of more is given up. A call each time so many bytes came in keeps the
+// stream within twice as many, whatever a peer sends.
+func (r *Receiver) KeepWithin(bytes int) error {
+	if bytes < 0 {
+		return ErrOutOfRange
+	}
+	return r.own().use(func(receiver *C.jilqamur_receiver) C.uint32_t {
+		return C.jilqamur_receiver_keep_within(receiver, C.size_t(bytes))
 	})
 }
 

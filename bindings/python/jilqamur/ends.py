@@ -9,11 +9,10 @@ from .codes import Code, Place, Refused, done, done_of
 from .exchanges import Exchanges
 from .library import SIZES, c_size_t, c_uint64, lib, size_at
 from .sections import Arrival, Taken, Verdict, opening, verdict_of
-from .streams import picture
+from .streams import MOST_MISSING, picture
 from .structs import ArrivalStruct, StreamStruct, ValuesStruct
 from .values import MIN_HELD, Row, Unit, Values, data, is_taken, new_tuple, text
 
-MOST_MISSING = 1023
 NO_VALUES = Values()
 NO_VALUES_AT = byref(ValuesStruct())
 

@@ -11,6 +11,9 @@ from .library import Owner, c_bool, c_size_t, c_uint64, lib, size_at
 from .structs import PacketizerStruct, PlacedStruct, SenderStruct, UnitStruct
 from .values import MIN_HELD, Format, Unit, data, given, is_taken, text
 
+# The most numbers that can be missing.
+MOST_MISSING = 1023
+
 
 class UnitOwner(Owner):
     """What hands units out."""
@@ -178,6 +181,25 @@ class Receiver(UnitOwner):
     def drain(self) -> Unit | None:
         """The same, even if a packet before the first complete unit is missing: for the end of a stream."""
         return self._polled(lib.receiver_drain, lib.bare_receiver_unit)
+
+    def missing(self) -> list[int]:
+        """The missing numbers, in increasing order, at most 1,023: what a generic NACK may ask for (RFC 4585 6.2.1)."""
+        numbers, needed = (c_uint64 * MOST_MISSING)(), c_size_t()
+        with self._lock:
+            done(lib.receiver_missing(self._at, numbers, MOST_MISSING, byref(needed)))
+        return numbers[:needed.value]
+
+    def pass_to(self, number: int) -> None:
+        """Passes all numbers up to this one: what waits of them is dropped, and the frame after it is next."""
+        with self._lock:
+            done(lib.receiver_pass_to(self._at, u64("number", number)))
+
+    def keep_within(self, bytes_: int) -> None:
+        """Gives memory back: of the packets that wait those with the highest numbers stay, whose payloads have at most
+        so many bytes together, and a fragment of more is given up. A call each time so many bytes came in keeps the
+        stream within twice as many, whatever a peer sends."""
+        with self._lock:
+            done(lib.receiver_keep_within(self._at, u64("bytes_", bytes_)))
 
     def units(self) -> Iterator[Unit]:
         """All units that are ready."""

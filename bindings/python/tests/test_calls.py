@@ -122,6 +122,19 @@ class Codecs(unittest.TestCase):
         assert drained is not None
         self.assertEqual((drained.data, drained.first), (b"\x01", 65537))
 
+    def test_what_a_receiver_misses_and_gives_up(self) -> None:
+        receiver = Receiver("opus", Format(48000), 3)
+        for low in (1, 3):
+            receiver.push(low, 0, False, bytes([low] * 3))
+        self.assertEqual([unit.first for unit in receiver.units()], [1])
+        self.assertEqual(receiver.missing(), [2])
+        receiver.keep_within(2)
+        self.assertEqual(receiver.missing(), [])
+        receiver.push(5, 0, False, b"\x05")
+        self.assertEqual(receiver.missing(), [4])
+        receiver.pass_to(4)
+        self.assertEqual([unit.first for unit in receiver.units()], [5])
+
     def test_a_codec_without_a_format_is_refused(self) -> None:
         with self.assertRaises(Refused) as raised:
             Packetizer("none", Format(90000))
@@ -349,6 +362,15 @@ class EachThing(unittest.TestCase):
 
 
 class Forwarding(unittest.TestCase):
+    def test_padding_and_cut_frames(self) -> None:
+        forwarder = Forwarder(1000)
+        forwarder.switch(7, 500, 90000, 3000)
+        self.assertEqual(forwarder.forward(7, 500, 90000, True), Placed(1000, 3000))
+        self.assertEqual((forwarder.pass_empty(7, 501), forwarder.pass_empty(7, 504)), (True, False))
+        self.assertEqual(forwarder.forward(7, 502, 93000, False), Placed(1001, 6000))
+        forwarder.switch(8, 1, 0, 0)
+        self.assertEqual(forwarder.forward(8, 1, 0, True), Placed(1003, 0))
+
     def test_sources_become_one_stream(self) -> None:
         forwarder = Forwarder(1000)
         self.assertIsNone(forwarder.place(7, 500, 0))

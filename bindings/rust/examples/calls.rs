@@ -275,6 +275,15 @@ fn receivers() -> Done {
     say_unit("drain", &receiver.drain());
     receiver.push(2, 270, true, &payload[..1])?;
     say_unit("poll", &receiver.poll());
+    let say_missing = |missing: &[u64]| println!("missing {} {}", missing.len(), missing.first().unwrap_or(&0));
+    receiver.push(4, 360, true, &payload)?;
+    say_missing(&receiver.missing()?);
+    receiver.keep_within(2);
+    say_missing(&receiver.missing()?);
+    receiver.push(6, 450, true, &payload)?;
+    say_missing(&receiver.missing()?);
+    receiver.pass_to(65_541);
+    say_unit("poll", &receiver.poll());
     say("receiver", &Receiver::new("VP8", Format::new(90_000), 3, 16_385));
     Ok(())
 }

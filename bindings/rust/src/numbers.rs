@@ -6,7 +6,7 @@ use crate::refused::{EndError, done_of};
 use crate::sys;
 
 /// The most numbers that can be missing.
-const MOST_MISSING: usize = 1023;
+pub(crate) const MOST_MISSING: usize = 1023;
 
 impl End {
     /// The missing numbers of a receiving stream, in increasing order: those after the last unit's, or, before any

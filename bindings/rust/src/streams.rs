@@ -2,6 +2,7 @@
 
 use crate::datagrams::fetched;
 use crate::error::code;
+use crate::numbers::MOST_MISSING;
 use crate::refused::{EndError, Place, done, done_at};
 use crate::sys;
 use crate::units::{Unit, handed_out};
@@ -245,6 +246,33 @@ impl Receiver {
         // SAFETY: the handle is open.
         let answer = unsafe { sys::jilqamur_receiver_drain(self.0.raw()) };
         handed_out(&self.0, answer, done, sys::jilqamur_receiver_unit)
+    }
+
+    /// The missing numbers, in increasing order, as [`End::missing`](crate::End::missing) those of an end's stream.
+    ///
+    /// # Errors
+    /// `Memory`.
+    pub fn missing(&self) -> Result<Vec<u64>, EndError> {
+        let (mut numbers, mut needed) = (vec![0; MOST_MISSING], 0);
+        let (at, len) = (numbers.as_mut_ptr(), numbers.len());
+        // SAFETY: the handle is open, pointer and length are those of one slice, and the count is a place of its own.
+        done(unsafe { sys::jilqamur_receiver_missing(self.0.raw(), at, len, &mut needed) })?;
+        numbers.truncate(needed);
+        Ok(numbers)
+    }
+
+    /// Passes all numbers up to this one: what waits of them is dropped, and the frame after it is next.
+    pub fn pass_to(&mut self, number: u64) {
+        // SAFETY: the handle is open.
+        unsafe { sys::jilqamur_receiver_pass_to(self.0.raw(), number) };
+    }
+
+    /// Gives memory back: of the packets that wait those with the highest numbers stay, whose payloads have at most so
+    /// many bytes together, and a fragment of more is given up. A call each time so many bytes came in keeps the stream
+    /// within twice as many, whatever a peer sends.
+    pub fn keep_within(&mut self, bytes: usize) {
+        // SAFETY: the handle is open.
+        unsafe { sys::jilqamur_receiver_keep_within(self.0.raw(), bytes) };
     }
 }
 

@@ -499,6 +499,14 @@ unsafe extern "C" {
         number: *mut u64,
     ) -> u32;
     pub(crate) fn jilqamur_receiver_poll(receiver: *mut RawHandle) -> u32;
+    pub(crate) fn jilqamur_receiver_missing(
+        receiver: *mut RawHandle,
+        numbers: *mut u64,
+        len: usize,
+        needed: *mut usize,
+    ) -> u32;
+    pub(crate) fn jilqamur_receiver_pass_to(receiver: *mut RawHandle, number: u64) -> u32;
+    pub(crate) fn jilqamur_receiver_keep_within(receiver: *mut RawHandle, bytes: usize) -> u32;
     pub(crate) fn jilqamur_receiver_drain(receiver: *mut RawHandle) -> u32;
     pub(crate) fn jilqamur_receiver_unit(
         receiver: *mut RawHandle,

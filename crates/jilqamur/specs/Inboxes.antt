@@ -5,6 +5,8 @@ use Rattle.rtp_wire.specs.Values.{absent}
 use Rattle.payload_core_buffer.specs.Buffered.{Holding}
 use Rattle.payload_core_buffer.specs.Steps.{MediaUnit}
 use Rattle.payload_core_buffer.specs.Steps.{PollStep}
+use Rattle.rtp_media_streams.specs.Limits.{kept_within}
+use Rattle.rtp_media_streams.specs.Passing.{passed_to}
 use Rattle.rtp_media_streams.specs.Polls.{drain_step, given, poll_step}
 use Rattle.rtp_media_streams.specs.Receiving.{Receiving, arrived, opened_receiver, taken_number, with_stream}
 use Rattle.jilqamur.specs.Codes.{ok, memory, refused}
@@ -23,6 +25,13 @@ new_inbox format codec holding = record {
   stream = opened_receiver 0 (type_alone 0) empty_map (format_named format codec) holding;
   unit = None;
 }
+
+-- The stream once all numbers up to one are passed, and once it is kept within a limit of bytes.
+abbrev pub passed_inbox : ℕ → InboxState → InboxState
+passed_inbox number p = record p { stream = with_stream p.stream (passed_to number p.stream.stream) }
+
+abbrev pub limited_inbox : ℕ → InboxState → InboxState
+limited_inbox bytes p = record p { stream = with_stream p.stream (kept_within bytes p.stream.stream) }
 
 -- The number of a packet, and the widened number that it was taken under.
 abbrev pub take_outcome : Option ℕ → ℕ

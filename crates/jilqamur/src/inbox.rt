@@ -2,11 +2,12 @@
 
 ghost use Rattle.std.specs.Prelude.{◌≡◌, ◌≢◌, IfOk, IfErr, OnErr, OnOk};
 ghost use Rattle.payload_core_buffer.specs.Buffered.{holding_of};
+ghost use Rattle.rtp_media_streams.specs.Missing.{missing};
 ghost use Rattle.rtp_media_streams.specs.Receiving.{arrived, taken_number, with_stream};
 ghost use Rattle.rtp_wire.specs.Values.{absent};
 ghost use Rattle.jilqamur.specs.Codes.{ok};
 ghost use Rattle.jilqamur.specs.Formats.{inbox_outcome};
-ghost use Rattle.jilqamur.specs.Inboxes.{new_inbox, Takes, Polls, Drains};
+ghost use Rattle.jilqamur.specs.Inboxes.{new_inbox, passed_inbox, limited_inbox, Takes, Polls, Drains};
 
 use crate::answers::poll_code;
 use crate::codes;
@@ -143,6 +144,31 @@ impl Inbox {
     {
         let answer = self.stream.drain();
         poll_code(answer, &mut self.unit)
+    }
+
+    /// Is done with all numbers up to this one, as [`ReceivingStream::pass_to`] says.
+    pub fn pass_to(&mut self, number: SeqNo)
+        ensures { self.new ≡ passed_inbox number self.old }
+    {
+        self.stream.pass_to(number);
+    }
+
+    /// Keeps what waits within a limit of bytes, as [`ReceivingStream::keep_within`] says.
+    pub fn keep_within(&mut self, bytes: usize)
+        ensures { self.new ≡ limited_inbox bytes self.old }
+    {
+        self.stream.keep_within(bytes);
+    }
+
+    /// The missing numbers, as [`ReceivingStream::missing`] says.
+    ///
+    /// # Errors
+    ///
+    /// Out of memory for the list.
+    pub fn missing(&self) -> Result<Vec<SeqNo>, AllocError>
+        ensures { IfOk result (λ numbers. numbers.items ≡ missing self.now.stream.stream) }
+    {
+        self.stream.missing()
     }
 
     /// The unit that a poll left last.

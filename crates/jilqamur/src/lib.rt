@@ -35,6 +35,7 @@ mod passing;
 mod payload_info;
 mod payload_unit;
 mod place;
+mod receiver_numbers;
 mod receivers;
 mod receiving;
 mod refusals;

@@ -19,7 +19,7 @@ use rtp_wire::SeqNo;
 use std::alloc::{AllocError, Global};
 
 /// The numbers as C programs see them.
-fn wide(alloc: Global, numbers: &[SeqNo]) -> Result<Vec<u64>, AllocError>
+pub fn wide(alloc: Global, numbers: &[SeqNo]) -> Result<Vec<u64>, AllocError>
     ensures { IfOk result (λ all. all.items ≡ numbers.now) }
 {
     let mut all = Vec::new(alloc);
