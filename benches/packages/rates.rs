@@ -1,6 +1,7 @@
-//! What benches/packages/go does, by the Rust package: samples into datagrams, and datagrams received and polled.
+//! What benches/packages/go does, by the Rust package: samples into datagrams, and datagrams received and polled, in
+//! memory that is used again.
 
-use jilqamur::{Direction, End, EndError, Kind, MIN_HELD, Received, Row, Section, StreamParams};
+use jilqamur::{Direction, End, EndError, Kind, MIN_HELD, Received, Row, Section, StreamParams, Unit};
 use std::time::Instant;
 
 const MTU: usize = 1200;
@@ -39,18 +40,26 @@ fn measure(line: &Line) -> Result<(), EndError> {
     let rate = |nanos: u128| line.size as u128 * rounds as u128 * 1000 / nanos.max(1);
     let (mut a, mut b) = agreed(line)?;
     let (mut sent_in, mut received_in, mut ticks, mut bytes) = (u128::MAX, u128::MAX, 0, 0);
+    let (mut sent, mut unit) = (vec![Vec::<Vec<u8>>::new(); rounds], Unit::default());
     for _ in 0..SLICES {
         let start = Instant::now();
-        let mut sent: Vec<Vec<Vec<u8>>> = Vec::with_capacity(rounds);
-        for _ in 0..rounds {
+        for datagrams in &mut sent {
             ticks += 960;
-            sent.push(a.push_sample(0, ticks, &sample, None)?.collect());
+            let (mut pushed, mut next) = (a.push_sample(0, ticks, &sample, None)?, 0);
+            while pushed.len() > 0 {
+                if next == datagrams.len() {
+                    datagrams.push(Vec::new());
+                }
+                pushed.next_into(&mut datagrams[next]);
+                next += 1;
+            }
+            datagrams.truncate(next);
         }
         sent_in = sent_in.min(start.elapsed().as_nanos());
         let start = Instant::now();
         for datagram in sent.iter().flatten() {
             if let Received::Taken(stream, _) = b.receive(datagram)? {
-                while let Some(unit) = b.poll(stream)? {
+                while b.poll_into(stream, &mut unit)? {
                     bytes = unit.bytes.len();
                 }
             }

@@ -28,6 +28,21 @@ pub(crate) fn fetched(mut call: impl FnMut(*mut u8, usize, &mut usize) -> u32) -
     }
 }
 
+/// Copies what a call copies in place of what a buffer holds, whose memory is used again.
+pub(crate) fn fetched_into(buffer: &mut Vec<u8>, mut call: impl FnMut(*mut u8, usize, &mut usize) -> u32) {
+    buffer.clear();
+    let mut needed = 0;
+    let mut answer = call(buffer.spare_capacity_mut().as_mut_ptr().cast(), buffer.capacity(), &mut needed);
+    if answer == code::TOO_SMALL {
+        buffer.reserve(needed);
+        answer = call(buffer.spare_capacity_mut().as_mut_ptr().cast(), buffer.capacity(), &mut needed);
+    }
+    if answer == code::OK {
+        // SAFETY: the call wrote so many bytes.
+        unsafe { buffer.set_len(needed) };
+    }
+}
+
 /// The datagrams of a sample, in order.
 ///
 /// ```
@@ -54,6 +69,38 @@ impl<'a> Datagrams<'a> {
     /// So many datagrams that an end left.
     pub(crate) fn new(end: &'a mut End, count: usize) -> Datagrams<'a> {
         Datagrams { end, next: 0, count }
+    }
+
+    /// Copies the next datagram in place of what a buffer holds, whose memory is used again; false after the last one.
+    ///
+    /// ```
+    /// # use jilqamur::{Direction, End, Kind, Section, StreamParams};
+    /// # let mut a = End::builder().codec("opus", 111).session(1).build()?;
+    /// # let mut b = End::builder().codec("opus", 111).session(2).build()?;
+    /// # let audio = |ssrcs| Section { mid: "0", kind: Kind::Audio, direction: Direction::SendRecv, ssrcs, repairs: &[] };
+    /// # let offer = a.offer(&[audio(&[44])])?;
+    /// # let answer = b.answer(&offer, &[audio(&[45])])?;
+    /// # a.accept(&answer)?;
+    /// # let stream = a.open_sender("0", 44, 111, StreamParams::new(1000, 1200, 1400), None)?;
+    /// let (mut datagram, mut bytes) = (Vec::new(), 0);
+    /// let mut datagrams = a.push_sample(stream, 0, &[1; 2000], None)?;
+    /// while datagrams.next_into(&mut datagram) {
+    ///     bytes += datagram.len();
+    /// }
+    /// assert_eq!(bytes, 2024); // two headers
+    /// # Ok::<(), jilqamur::EndError>(())
+    /// ```
+    pub fn next_into(&mut self, buffer: &mut Vec<u8>) -> bool {
+        if self.next == self.count {
+            return false;
+        }
+        let (end, index) = (&self.end.0, self.next);
+        self.next += 1;
+        fetched_into(buffer, |buffer, len, needed| {
+            // SAFETY: the handle is open, and pointer and length are those of one slice.
+            unsafe { sys::jilqamur_end_datagram(end.raw(), index, buffer, len, needed) }
+        });
+        true
     }
 }
 

@@ -5,7 +5,7 @@ use crate::error::{Reason, code};
 use crate::params::{Received, Row, StreamParams};
 use crate::refused::{EndError, Place, done, done_at, done_of, keeps_mid};
 use crate::sys;
-use crate::units::{Unit, handed_out};
+use crate::units::{Unit, handed_out, handed_out_into};
 use crate::values::Values;
 
 /// An end of a session: what it offers, what it agreed on with the other end, and its streams.
@@ -203,7 +203,7 @@ impl End {
         sample: &[u8],
         mid: Option<&str>,
     ) -> Result<Datagrams<'_>, EndError> {
-        self.push_sample_with(stream, ticks, sample, mid, &Values::default())
+        self.push(stream, ticks, sample, mid, &sys::Values::default())
     }
 
     /// The same, with values of header extensions: each is carried if the agreed map has a number for it.
@@ -218,7 +218,18 @@ impl End {
         mid: Option<&str>,
         values: &Values,
     ) -> Result<Datagrams<'_>, EndError> {
-        let (mid, values) = (mid.unwrap_or(""), values.given());
+        self.push(stream, ticks, sample, mid, &values.given())
+    }
+
+    fn push(
+        &mut self,
+        stream: usize,
+        ticks: u64,
+        sample: &[u8],
+        mid: Option<&str>,
+        values: &sys::Values,
+    ) -> Result<Datagrams<'_>, EndError> {
+        let mid = mid.unwrap_or("");
         keeps_mid(mid, || Place::section(mid))?;
         let mut count = 0;
         // SAFETY: the handle is open, and pointers and lengths are those of one slice each.
@@ -227,7 +238,7 @@ impl End {
                 self.0.raw(),
                 stream,
                 ticks,
-                &values,
+                values,
                 mid.as_ptr(),
                 mid.len(),
                 sample.as_ptr(),
@@ -284,7 +295,26 @@ impl End {
         handed_out(&self.0, answer, |answer| done_of(answer, stream), sys::jilqamur_end_unit)
     }
 
-    /// The same, whether or not a datagram before the lowest complete unit is missing: for the end of a stream.
+    /// Polls as [`End::poll`], and puts the unit in place of another one, whose memory is used again; false if none is
+    /// ready, and the other one is unchanged.
+    ///
+    /// ```
+    /// use jilqamur::{End, Reason, Unit};
+    /// let mut end = End::builder().codec("opus", 111).build()?;
+    /// let mut unit = Unit::default();
+    /// assert_eq!(end.poll_into(0, &mut unit).expect_err("no stream is open").reason(), Reason::NoStream);
+    /// # Ok::<(), jilqamur::EndError>(())
+    /// ```
+    ///
+    /// # Errors
+    /// As [`End::poll`].
+    pub fn poll_into(&mut self, stream: usize, unit: &mut Unit) -> Result<bool, EndError> {
+        // SAFETY: the handle is open.
+        let answer = unsafe { sys::jilqamur_end_poll(self.0.raw(), stream) };
+        handed_out_into(&self.0, answer, |answer| done_of(answer, stream), sys::jilqamur_end_unit, unit)
+    }
+
+    /// The next unit, whether or not a datagram before the lowest complete one is missing: for the end of a stream.
     ///
     /// # Errors
     /// As [`End::poll`].

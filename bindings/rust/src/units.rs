@@ -1,8 +1,9 @@
 //! Units, as polls hand them out.
 
-use crate::datagrams::fetched;
+use crate::datagrams::{fetched, fetched_into};
 use crate::error::code;
 use crate::sys;
+use std::mem;
 use std::time::Duration;
 
 /// One report of a telephone event (RFC 4733 2.3).
@@ -38,7 +39,7 @@ pub struct TelephoneEvent {
 /// assert_eq!((first, last, time, bytes), (7, 7, 960, vec![1, 2, 3]));
 /// # Ok::<(), jilqamur::EndError>(())
 /// ```
-#[derive(Clone, Debug, PartialEq, Eq)]
+#[derive(Clone, Debug, Default, PartialEq, Eq)]
 pub struct Unit {
     /// The widened sequence number of its first datagram.
     pub first: u64,
@@ -98,4 +99,25 @@ pub(crate) fn handed_out<E>(
         unsafe { copy(handle.raw(), buffer, len, needed, &mut told) }
     });
     Ok(Some(Unit::of(told, bytes)))
+}
+
+/// The same in place of a unit, whose memory is used again; false if none was handed out.
+pub(crate) fn handed_out_into<E>(
+    handle: &sys::Handle,
+    answer: u32,
+    done: impl FnOnce(u32) -> Result<(), E>,
+    copy: CopyUnit,
+    unit: &mut Unit,
+) -> Result<bool, E> {
+    if answer == code::NOTHING {
+        return Ok(false);
+    }
+    done(answer)?;
+    let (mut told, mut bytes) = (sys::Unit::default(), mem::take(&mut unit.bytes));
+    fetched_into(&mut bytes, |buffer, len, needed| {
+        // SAFETY: the handle is open, and what is written are places of their own.
+        unsafe { copy(handle.raw(), buffer, len, needed, &mut told) }
+    });
+    *unit = Unit::of(told, bytes);
+    Ok(true)
 }

@@ -2,7 +2,7 @@
 
 use jilqamur::{
     Depacketizer, Direction, End, EndError, Forwarder, Kind, MIN_HELD, Packetizer, Received, Receiver, Section, Sender,
-    StreamParams, Window,
+    StreamParams, Unit, Window,
 };
 use std::sync::mpsc;
 use std::thread;
@@ -88,4 +88,23 @@ fn ends_of_many_threads_share_nothing() {
     for thread in threads {
         thread.join().expect("no panic").expect("no refusal");
     }
+}
+
+/// Memory is used again, whatever the sizes are.
+#[test]
+fn datagrams_and_units_go_into_the_same_memory() -> Result<(), EndError> {
+    let (mut a, mut b) = agreed()?;
+    let (mut datagram, mut unit) = (Vec::new(), Unit::default());
+    for (k, size) in [1_usize, 1200, 3, 900, 7].into_iter().enumerate() {
+        let sample = vec![k as u8 + 1; size];
+        let mut datagrams = a.push_sample(0, 960 * k as u64, &sample, None)?;
+        assert!(datagrams.next_into(&mut datagram));
+        assert!(!datagrams.next_into(&mut datagram));
+        assert!(matches!(b.receive(&datagram)?, Received::Taken(0, _)));
+        assert!(b.poll_into(0, &mut unit)?);
+        assert_eq!((unit.bytes.as_slice(), unit.time as usize), (sample.as_slice(), 960 * k));
+        assert!(!b.poll_into(0, &mut unit)?);
+        assert_eq!(unit.bytes, sample);
+    }
+    Ok(())
 }
