@@ -96,6 +96,7 @@ func (o *owner[H]) lock() (*owned[H], error) {
 		o.owned.mutex.Unlock()
 		return nil, ErrClosed
 	}
+	o.owned.left.trim()
 	return o.owned, nil
 }
 

@@ -50,6 +50,16 @@ const (
 	leastCount = 16
 )
 
+// mostKept is how many bytes are kept for later calls; a frame that needed more gives them back.
+const mostKept = 1 << 20
+
+// trim gives back what an earlier call needed beyond mostKept.
+func (l *left) trim() {
+	if len(l.bytes) > mostKept {
+		l.bytes = nil
+	}
+}
+
 // room is where calls copy to.
 func (l *left) room() (*C.uint8_t, C.size_t) {
 	if l.bytes == nil {

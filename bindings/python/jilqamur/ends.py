@@ -11,7 +11,7 @@ from .library import SIZES, c_size_t, c_uint64, lib, size_at
 from .sections import Arrival, Taken, Verdict, opening, verdict_of
 from .streams import MOST_MISSING, picture
 from .structs import ArrivalStruct, StreamStruct, ValuesStruct
-from .values import MIN_HELD, Row, Unit, Values, data, is_taken, new_tuple, text
+from .values import MIN_HELD, Row, Unit, Values, data, is_taken, new_tuple, struct_of, text
 
 NO_VALUES = Values()
 NO_VALUES_AT = byref(ValuesStruct())
@@ -98,7 +98,7 @@ class End(Exchanges):
                     mid: str | None = None) -> list[bytes]:
         """The datagrams of a sample at a time in ticks of the row's clock, with these values of header extensions."""
         number, sample, name = u64("stream", stream), bytes_of("sample", sample), mid_of(mid) if mid else b""
-        carried = NO_VALUES_AT if values is NO_VALUES else byref(values.struct())
+        carried = NO_VALUES_AT if values is NO_VALUES else byref(struct_of(values))
         at, fetch, needed, needed_at = self._at, DATAGRAM, self._needed, self._needed_at
         with self._lock:
             code = PUSH_SAMPLE(at, size_at(number), c_uint64(u64("ticks", ticks)), carried, name,
@@ -215,7 +215,7 @@ class End(Exchanges):
                     values: Values = NO_VALUES, mid: str | None = None) -> bytes:
         """One packet of another stream as a datagram of a sending stream."""
         name, sender = mid_of(mid) if mid else b"", u64("stream", stream)
-        given = [byref(values.struct()), name, len(name), *data("payload", payload)]
+        given = [byref(struct_of(values)), name, len(name), *data("payload", payload)]
         with self._lock:
             done_of(lib.end_send_packet(self._at, sender, u64("number", number), u32("timestamp", timestamp),
                                         bool(marker), *given), sender)

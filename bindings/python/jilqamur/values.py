@@ -152,6 +152,13 @@ class Values:
 VALUES = tuple(field.name for field in fields(Values))
 
 
+def struct_of(values: Values) -> ValuesStruct:
+    """The values for a call. `TypeError` if they are something else."""
+    if not isinstance(values, Values):
+        raise TypeError(f"values have to be Values, not {type(values).__name__}")
+    return Values.struct(values)
+
+
 @dataclass(frozen=True)
 class Names:
     """The names of section and stream that a datagram carries."""

@@ -171,6 +171,10 @@ class Bytes(unittest.TestCase):
             for given in (7, 10 ** 10, None, [1], object()):
                 with self.assertRaises(TypeError, msg=repr(given)):
                     call(given)
+        for values in (None, 7, {}, Format(8000)):
+            for call in (lambda: a.push_sample(0, 0, b"1", values), lambda: a.send_packet(0, 1, 1, True, b"1", values)):
+                with self.assertRaises(TypeError):
+                    call()
         for direction in (7, "sendrecv", (True, True), None):
             with self.assertRaises(TypeError):
                 a.offer([Section("a", False, direction)])  # type: ignore[arg-type]
