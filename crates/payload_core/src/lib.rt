@@ -24,8 +24,9 @@ pub use payload_core_buffer::{
 };
 pub use payload_core_vpx::{
     VP8_HEADER_SIZE, Vp8Depacketizer, Vp8Descriptor, Vp8DescriptorError, Vp8Packetizer, Vp8Patch,
-    Vp8PatchBuilder, Vp8PatchError, Vp9Depacketizer, Vp9Packetizer, detect_vp8_keyframe,
-    vp8_keyframe_law, vp8_law, vp8_layout_law, vp8_patch_law, vp9_law, vp9_layout_law,
+    Vp8PatchBuilder, Vp8PatchError, Vp8Shift, Vp9Depacketizer, Vp9Packetizer, detect_vp8_keyframe,
+    vp8_keyframe_law, vp8_law, vp8_layout_law, vp8_patch_law, vp8_shift_law, vp9_law,
+    vp9_layout_law,
 };
 pub use rtp_wire::{
     AbsCaptureTime, ClockRate, ExtensionValues, Frequency, Mid, ParseFrequencyError, Pt, Rid,

@@ -7,3 +7,4 @@ pub mod MorePieces
 pub mod Newest
 pub mod WholeRuns
 pub mod ValuesAside
+pub mod Vp8Parts

@@ -3,3 +3,4 @@ pub mod Forwarding
 pub mod Relayed
 pub mod Relaying
 pub mod Steps
+pub mod Vp8Ids
