@@ -21,7 +21,10 @@ use Rattle.rtp_media_schedules.specs.Samples.{AreSentAs, SentSample, canonical_u
 use Rattle.rtp_media_schedules.specs.Sending.{numbered}
 use Rattle.rtp_media_schedules.specs.Turns as turns
 use Rattle.rtp_media_schedules.specs.Turns.{Ask, Sender, Turn, event_of}
+use Rattle.rtp_media_schedules.specs.InTime.{timed_answer}
+use Rattle.rtp_media_schedules.proofs.PromptSamples.{prompt-samples, tame-samples}
 use Rattle.rtp_media_schedules.proofs.Samples.{exact-samples, legal-samples}
+use Rattle.rtp_media_schedules.proofs.Withheld.{nothing-withheld}
 use Rattle.rtp_media_streams.specs.Receiving.{Receiving, opened_receiver, with_stream}
 use Rattle.rtp_media_streams.specs.Repairing.{repair}
 use Rattle.rtp_media_streams.specs.Rows.{format_of}
@@ -38,8 +41,8 @@ use Rattle.rtp_media_ends.proofs.Datagrams.{AreTheirs}
 use Rattle.rtp_media_ends.proofs.Exact.{all-theirs, brings, sent-as-read, units-are}
 use Rattle.rtp_media_ends.proofs.Repaired.{counts}
 use Rattle.rtp_media_ends.proofs.SentRepairs.{headed, takes-repairs}
-use Rattle.rtp_media_runs.specs.Runs.{AreForeign, Hears, IsSaneSchedule, IsTameSchedule, canonical_of, sizes_at}
-use Rattle.rtp_media_runs.specs.Runs.{turns_at}
+use Rattle.rtp_media_runs.specs.Runs.{AreForeign, FollowsSchedule, Hears, IsSaneSchedule, IsTameSchedule}
+use Rattle.rtp_media_runs.specs.Runs.{IsTimelySchedule, canonical_of, prompt_answers, sizes_at, turns_at}
 use Rattle.rtp_media_runs.specs.Schedules.{Source, bytes_of, is_made, is_repaired, own_events, played, poll_answers}
 use Rattle.rtp_media_runs.specs.Schedules.{repair_at, source_after, source_of, turns_of}
 use Rattle.rtp_media_runs.specs.declared.schedule.Event.{Event}
@@ -220,6 +223,26 @@ module _ (law : KeepCodecLawInForms) (e : EndState) (rx : ℕ) (holding : Holdin
   legal-run xs sane =
       subst (λ (os : List Answer). IsLegal (canonical_of s samples) os) (sym (run-is xs sane.foreign))
       (legal-samples format sent reads holding s.next (turns_at s samples xs) hears.numbers sane.order)
+
+  pub follows-run : (xs : List Event) → IsSaneSchedule s samples xs
+      → FollowsSchedule s samples holding xs (poll_answers (played source rx e xs))
+  follows-run xs sane =
+      subst (λ (os : List Answer). FollowsSchedule s samples holding xs os) (sym (run-is xs sane.foreign))
+      (nothing-withheld format holding s.next sent (turns_at s samples xs) reads hears.numbers sane.order)
+
+  pub prompt-run : (xs : List Event) → IsTimelySchedule s samples holding xs
+      → map timed_answer (poll_answers (played source rx e xs)) ≡ prompt_answers s samples xs (units_of s samples)
+  prompt-run xs timely =
+      ap (λ (os : List Answer). map timed_answer os) (run-is xs timely.foreign)
+      ∙ prompt-samples format sent reads holding s.next (turns_at s samples xs) hears.numbers timely.order
+
+  -- a tame schedule is in time
+  pub timely-run : (xs : List Event) (os : List Answer) → IsTameSchedule s samples holding xs os
+      → IsTimelySchedule s samples holding xs
+  timely-run xs os tame = record {
+    foreign = tame.foreign;
+    order = tame-samples format sent reads holding s.next (turns_at s samples xs) tame.order;
+  }
 
   -- a poll more is a turn more
   turns-more : (first count : ℕ) (f : ℕ → Bool) (xs : List Event) → turns_of first count f (xs ++ Poll ∷ [])

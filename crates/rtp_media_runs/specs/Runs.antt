@@ -3,9 +3,12 @@ use Rattle.std.specs.Prelude.{ℕ, ◌≡◌, ◌+◌, ◌^◌, ◌≤◌, false
 use Rattle.payload_core_buffer.specs.Steps.{Answer}
 use Rattle.rtp_media_schedules.specs.Hearing.{EndsSilent}
 use Rattle.payload_core_buffer.specs.Buffered.{Holding}
+use Rattle.rtp_media_schedules.specs.InTime.{IsInTime, TimedAnswer, when_come}
+use Rattle.rtp_media_schedules.specs.Losses.{Follows}
 use Rattle.rtp_media_schedules.specs.Orders.{IsSane, IsTame, first_size}
 use Rattle.rtp_media_schedules.specs.Samples.{canonical_units, frame_sizes}
 use Rattle.rtp_media_schedules.specs.Sending.{Canonical}
+use Rattle.rtp_media_schedules.specs.SentSamples.{Timed}
 use Rattle.rtp_media_schedules.specs.Turns.{Turn}
 use Rattle.rtp_media_streams.specs.Receiving.{opened_receiver}
 use Rattle.rtp_media_streams.specs.Rows.{format_of}
@@ -57,6 +60,26 @@ pub record IsTameSchedule (s : Sending) (samples : List Sample) (holding : Holdi
 -- The canonical units of a stream's samples, with the numbers of their samples' datagrams.
 abbrev pub canonical_of : Sending → List Sample → List Canonical
 canonical_of s samples = canonical_units s.next (sent_samples s samples)
+
+-- What the polls of a schedule return though datagrams are lost or late.
+abbrev pub FollowsSchedule : Sending → List Sample → Holding → List Event → List Answer → Type 0
+FollowsSchedule s samples holding schedule answers =
+    Follows s.next (count_of s samples) holding [] s.next (sizes_at s samples) (canonical_of s samples)
+    (turns_at s samples schedule) answers
+
+-- A schedule in which every unit comes in time: nobody else sends under the stream's SSRC and types or those of its
+-- RTX; every datagram arrives before any whose number is 1,024 or more above it; no more datagrams wait than may be
+-- held; and at each poll the next unit is whole, or no more units have ended than are held back.
+pub record IsTimelySchedule (s : Sending) (samples : List Sample) (holding : Holding) (schedule : List Event)
+    : Type 0 where
+  pub foreign : AreForeign s.ssrc s.types schedule
+  pub order : IsInTime s.next (count_of s samples) holding [] s.next (sizes_at s samples)
+      (turns_at s samples schedule)
+
+-- What its polls return, if these are the units: the next one if all its datagrams came, and otherwise None.
+abbrev pub prompt_answers : Sending → List Sample → List Event → List Timed → List TimedAnswer
+prompt_answers s samples schedule units =
+    when_come [] s.next (sizes_at s samples) units (turns_at s samples schedule)
 
 -- An end's receiving stream hears a sending stream: it has the same SSRC, payload types, extension map and row, and has
 -- heard nothing yet. Each sample is well-formed, and the numbers stay below 2^62.

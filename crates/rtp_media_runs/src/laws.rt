@@ -13,7 +13,9 @@ ghost use Rattle.rtp_media_ends.specs.Ends.{refusal_of_open_receiver, refusal_of
 ghost use Rattle.rtp_media_ends.specs.OpensAt.{ReceivesAt, SendsAt};
 ghost use Rattle.rtp_media_ends.specs.declared.StreamParams.{StreamParams};
 ghost use Rattle.rtp_media_runs.specs.Headline.{SendsTo, answers_of, units};
-ghost use Rattle.rtp_media_runs.specs.Runs.{Hears, IsSaneSchedule, IsTameSchedule, canonical_of};
+ghost use Rattle.rtp_media_runs.specs.Runs.{FollowsSchedule, Hears, IsSaneSchedule, IsTameSchedule};
+ghost use Rattle.rtp_media_runs.specs.Runs.{IsTimelySchedule, canonical_of, prompt_answers};
+ghost use Rattle.rtp_media_schedules.specs.InTime.{timed_answer};
 ghost use Rattle.rtp_media_runs.specs.Schedules.{own_events, source_of};
 ghost use Rattle.rtp_media_runs.specs.declared.schedule.Event.{Event};
 
@@ -26,7 +28,9 @@ use rtp_media_ends::openings_law;
 /// (`legal`) of the canonical units, which are a function only of the row, extension map, limits,
 /// first picture id, `for_browsers` and samples (`units`); what the receiver hands out is a
 /// function only of its own datagrams and polls (`alone`); and under a tame schedule it is exactly
-/// these units (`exact`).
+/// these units (`exact`). Under every sane schedule a unit that came whole isn't skipped, and comes at the latest when
+/// more units came whole than are held back (`follows`); and as long as every unit comes in time, at every hold-back,
+/// each poll returns the next unit if all its datagrams came (`prompt`), as under tame schedules (`timely`).
 pub fn headline()
     ensures sends { (end : EndState) (mid : List ℕ) (ssrc pt : ℕ) →
         (refusal_of_open_sender end mid ssrc pt ≡ None) ↔ SendsAt end mid ssrc pt }
@@ -53,6 +57,24 @@ pub fn headline()
         SendsTo answer a b mid ssrc pt params samples →
         IsTameSchedule (new_sender a mid ssrc pt params) samples holding schedule answers →
         map timed_unit (handed_out answers) ≡ map Ok (units a mid pt params samples) }
+    ensures follows { (answer : List ℕ) (a b : EndState) (mid : List ℕ) (ssrc pt : ℕ) (params : StreamParams)
+        (samples : List Sample) (holding : Holding) (schedule : List Event) →
+        let sender = new_sender a mid ssrc pt params in
+        SendsTo answer a b mid ssrc pt params samples → IsSaneSchedule sender samples schedule →
+        FollowsSchedule sender samples holding schedule
+        (answers_of a b mid ssrc pt params holding samples schedule) }
+    ensures prompt { (answer : List ℕ) (a b : EndState) (mid : List ℕ) (ssrc pt : ℕ) (params : StreamParams)
+        (samples : List Sample) (holding : Holding) (schedule : List Event) →
+        let sender = new_sender a mid ssrc pt params in
+        SendsTo answer a b mid ssrc pt params samples → IsTimelySchedule sender samples holding schedule →
+        map timed_answer (answers_of a b mid ssrc pt params holding samples schedule)
+        ≡ prompt_answers sender samples schedule (units a mid pt params samples) }
+    ensures timely { (answer : List ℕ) (a b : EndState) (mid : List ℕ) (ssrc pt : ℕ) (params : StreamParams)
+        (samples : List Sample) (holding : Holding) (schedule : List Event) →
+        let sender = new_sender a mid ssrc pt params in
+        let answers = answers_of a b mid ssrc pt params holding samples schedule in
+        SendsTo answer a b mid ssrc pt params samples → IsTameSchedule sender samples holding schedule answers →
+        IsTimelySchedule sender samples holding schedule }
     // What `play` asks of its streams is met after both openings.
     ensures hears { (answer : List ℕ) (a b : EndState) (mid : List ℕ) (ssrc pt : ℕ) (params : StreamParams)
         (samples : List Sample) (holding : Holding) → SendsTo answer a b mid ssrc pt params samples →

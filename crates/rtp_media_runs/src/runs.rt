@@ -10,7 +10,9 @@ ghost use Rattle.rtp_media_schedules.specs.Legal.{IsLegal};
 ghost use Rattle.rtp_media_streams.specs.Rows.{format_of};
 ghost use Rattle.rtp_media_ends.specs.Ends.{is_receiver_at, is_sender_at, receiver_at};
 ghost use Rattle.rtp_media_ends.specs.FullArrival.{IsFound, units_of};
-ghost use Rattle.rtp_media_runs.specs.Runs.{Hears, IsSaneSchedule, IsTameSchedule, canonical_of};
+ghost use Rattle.rtp_media_runs.specs.Runs.{FollowsSchedule, Hears, IsSaneSchedule, IsTameSchedule};
+ghost use Rattle.rtp_media_runs.specs.Runs.{IsTimelySchedule, canonical_of, prompt_answers};
+ghost use Rattle.rtp_media_schedules.specs.InTime.{timed_answer};
 ghost use Rattle.rtp_media_ends.specs.Ends.{sender_at};
 ghost use Rattle.rtp_media_runs.specs.Pushing.{IsCutShort, IsRefusedAt, PlaysSome, StopsAt, after_made, after_repairs};
 ghost use Rattle.rtp_media_runs.specs.Pushing.{refusal_of_samples, source_at};
@@ -73,6 +75,18 @@ pub fn play(
         IfOk result (λ all. (holding : Holding) → Hears b.old rx holding sender samples.now →
         IsSaneSchedule sender samples.now schedule.now →
         IsLegal (canonical_of sender samples.now) (poll_answers all.items)) }
+    // Nothing is withheld: under every sane schedule a unit that came whole isn't skipped, and comes at the latest when
+    // more units came whole than are held back.
+    ensures follows { let sender = sender_at a.old tx in
+        IfOk result (λ all. (holding : Holding) → Hears b.old rx holding sender samples.now →
+        IsSaneSchedule sender samples.now schedule.now →
+        FollowsSchedule sender samples.now holding schedule.now (poll_answers all.items)) }
+    // Prompt: as long as every unit comes in time, each poll returns the next one if all its datagrams came.
+    ensures prompt { let sender = sender_at a.old tx in
+        IfOk result (λ all. (holding : Holding) → Hears b.old rx holding sender samples.now →
+        IsTimelySchedule sender samples.now holding schedule.now →
+        map timed_answer (poll_answers all.items)
+        ≡ prompt_answers sender samples.now schedule.now (units_of sender samples.now)) }
     // Exact under every tame schedule: it is just the canonical units.
     ensures exact { let sender = sender_at a.old tx in
         IfOk result (λ all. (holding : Holding) → Hears b.old rx holding sender samples.now →

@@ -2,14 +2,15 @@ use Rattle.std.proofs.Common.{◌≡◌, List, map, refl, sym, ◌∙◌, ap, su
 use Rattle.payload_core_buffer.specs.Steps.{Answer}
 use Rattle.rtp_media_schedules.specs.Hearing.{handed_out}
 use Rattle.rtp_media_schedules.specs.SentSamples.{timed_unit}
+use Rattle.rtp_media_schedules.specs.InTime.{timed_answer}
 use Rattle.rtp_media_schedules.specs.Legal.{IsLegal}
 use Rattle.rtp_media_ends.specs.Ends.{receiver_at, sender_at}
 use Rattle.rtp_media_runs.specs.Pushing.{AtEvent}
-use Rattle.rtp_media_runs.specs.Runs.{IsTameSchedule, canonical_of}
+use Rattle.rtp_media_runs.specs.Runs.{FollowsSchedule, IsTameSchedule, canonical_of}
 use Rattle.rtp_media_runs.specs.Schedules.{Source, played, poll_answers, source_of}
 use Rattle.rtp_media_runs.proofs.Isolated.{isolated}
 use Rattle.rtp_media_runs.proofs.Plays.{pushed-repairs, pushed-some, pushed-source}
-use Rattle.rtp_media_runs.proofs.WholeRuns.{exact-run, legal-run}
+use Rattle.rtp_media_runs.proofs.WholeRuns.{exact-run, follows-run, legal-run, prompt-run}
 use Rattle.std.proofs.Common.{arith}
 use Rattle.std.proofs.lemmas.Grind.{common_steps}
 use Rattle.rtp_media_runs.proofs.runs.play.Goals as goal
@@ -36,6 +37,33 @@ returns-in-Ok-play_schedule-clause-legal c = λ holding hears sane.
     (sym all)
     (legal-run c.codec_law.ensures.codec_in_forms c.args.b.now c.args.rx holding (sender_at c.args.a.now c.args.tx)
     c.args.samples.now hears c.args.schedule.now sane)
+
+pub returns-in-Ok-play_schedule-clause-follows : goal.returns-in-Ok-play_schedule-clause-follows
+returns-in-Ok-play_schedule-clause-follows c = λ holding hears sane.
+    let source = pushed-source c.args.a.now _ c.args.tx c.args.samples.now c.deref.result.now c.requires.sender
+    c.in-Ok.ensures.after (c.deref.ensures.value ∙ c.in-Ok.ensures.sent) in
+    let all : poll_answers c.in-Ok-play_schedule.all.items
+    ≡ poll_answers (played (source_of (sender_at c.args.a.now c.args.tx) c.args.samples.now) c.args.rx
+    c.args.b.now c.args.schedule.now) =
+    ap poll_answers (c.in-Ok-play_schedule.ensures.answers
+    ∙ ap (λ (u : Source). played u c.args.rx c.args.b.now c.args.schedule.now) source) in
+    subst (λ (os : List Answer). FollowsSchedule (sender_at c.args.a.now c.args.tx) c.args.samples.now holding
+    c.args.schedule.now os) (sym all)
+    (follows-run c.codec_law.ensures.codec_in_forms c.args.b.now c.args.rx holding (sender_at c.args.a.now c.args.tx)
+    c.args.samples.now hears c.args.schedule.now sane)
+
+pub returns-in-Ok-play_schedule-clause-prompt : goal.returns-in-Ok-play_schedule-clause-prompt
+returns-in-Ok-play_schedule-clause-prompt c = λ holding hears timely.
+    let source = pushed-source c.args.a.now _ c.args.tx c.args.samples.now c.deref.result.now c.requires.sender
+    c.in-Ok.ensures.after (c.deref.ensures.value ∙ c.in-Ok.ensures.sent) in
+    let all : poll_answers c.in-Ok-play_schedule.all.items
+    ≡ poll_answers (played (source_of (sender_at c.args.a.now c.args.tx) c.args.samples.now) c.args.rx
+    c.args.b.now c.args.schedule.now) =
+    ap poll_answers (c.in-Ok-play_schedule.ensures.answers
+    ∙ ap (λ (u : Source). played u c.args.rx c.args.b.now c.args.schedule.now) source) in
+    ap (λ (os : List Answer). map timed_answer os) all
+    ∙ prompt-run c.codec_law.ensures.codec_in_forms c.args.b.now c.args.rx holding (sender_at c.args.a.now c.args.tx)
+    c.args.samples.now hears c.args.schedule.now timely
 
 pub returns-in-Ok-play_schedule-clause-exact : goal.returns-in-Ok-play_schedule-clause-exact
 returns-in-Ok-play_schedule-clause-exact c = λ holding hears tame.
@@ -138,3 +166,15 @@ returns-clause-legal c = grind (arith, common_steps)
 
 pub returns-clause-exact : goal.returns-clause-exact
 returns-clause-exact c = grind (arith, common_steps)
+
+pub returns-in-Err-clause-follows : goal.returns-in-Err-clause-follows
+returns-in-Err-clause-follows c = grind (arith, common_steps)
+
+pub returns-in-Err-clause-prompt : goal.returns-in-Err-clause-prompt
+returns-in-Err-clause-prompt c = grind (arith, common_steps)
+
+pub returns-clause-follows : goal.returns-clause-follows
+returns-clause-follows c = grind (arith, common_steps)
+
+pub returns-clause-prompt : goal.returns-clause-prompt
+returns-clause-prompt c = grind (arith, common_steps)
