@@ -41,11 +41,11 @@ def in_c(folder, linked, seed):
 def in_rust(folder, linked, _):
     rustc = [tool("rustc"), "--edition", "2024", "-O"]
     rlib, program = folder / "libjilqamur.rlib", folder / "random_calls"
-    subprocess.run([*rustc, "--crate-type", "rlib", "--crate-name", "jilqamur", BINDINGS / "rust/src/lib.rs", "-o", rlib],
-                   check=True)
+    subprocess.run([*rustc, "--crate-type", "rlib", "--crate-name", "jilqamur", BINDINGS / "rust/src/lib.rs", "-o",
+                    rlib], check=True)
     links = [f"-Clink-arg={file}" for file in linked]
-    subprocess.run([*rustc, "--test", BINDINGS / "rust/tests/random_calls.rs", f"--extern=jilqamur={rlib}", *links, "-o",
-                    program], check=True)
+    subprocess.run([*rustc, "--test", BINDINGS / "rust/tests/random_calls.rs", f"--extern=jilqamur={rlib}", *links,
+                    "-o", program], check=True)
     return [program, "--nocapture"], {}
 
 
@@ -83,7 +83,8 @@ def tried(counts, name, folder, linked, seed):
         counts.check(f"random calls in {name}, seed {seed}", False, "they don't end")
         return
     told = SAID.search(ran.stdout + ran.stderr)
-    print(f"{name}, seed {seed}: {told[0] if told else 'nothing is told'} ({time.monotonic() - start:.0f} s)", flush=True)
+    took = time.monotonic() - start
+    print(f"{name}, seed {seed}: {told[0] if told else 'nothing is told'} ({took:.0f} s)", flush=True)
     counts.check(f"random calls in {name}, seed {seed}", ran.returncode == 0 and told,
                  f"status {ran.returncode}: {(ran.stdout + ran.stderr)[-800:]}")
 

@@ -16,13 +16,13 @@
 // speech (RFC 4867, section 5.3). Units have the same forms: each OBU with its size, each NAL unit after 00 00 00 01.
 //
 // A call that is refused returns an [Error], or a [Refusal], which tells the place too, and changes nothing unless its
-// comment says otherwise: compare both by [errors.Is]. Values of this package, such as an [End], are closed by Close, or
-// once nothing refers to them. Any goroutine may call any value: a call waits for another one at the same value. A call
-// at a nil pointer, at a zero value and at a closed one returns [ErrClosed], and at a copy [ErrCopied].
+// comment says otherwise: compare both by [errors.Is]. Values of this package, such as an [End], are closed by Close,
+// or once nothing refers to them. Any goroutine may call any value: a call waits for another one at the same value. A
+// call at a nil pointer, at a zero value and at a closed one returns [ErrClosed], and at a copy [ErrCopied].
 //
-// A call of C costs as much as a short call of the library, so each call of this package makes one. [End.AppendDatagrams],
-// [End.AppendUnits] and [End.AppendReceived] use the memory of earlier datagrams and units again; [End.AppendBatch] and
-// [End.ReceiveBatch] make one call of many samples or datagrams.
+// A call of C costs as much as a short call of the library, so a sample is one of them, and so is a datagram with its
+// units ([End.AppendReceived]). [End.AppendDatagrams] and [End.AppendUnits] use the memory of earlier datagrams and
+// units again; [End.AppendBatch] and [End.ReceiveBatch] make one call of many samples or datagrams.
 //
 // The library is linked from the folder lib of this package, or from the repository that it is in. With the build tag
 // jilqamur_pkgconfig, pkg-config finds it.

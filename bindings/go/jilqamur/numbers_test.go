@@ -59,8 +59,8 @@ func TestUnsignalledStreams(t *testing.T) {
 	equal(t, must[int](t)(a.OpenUnsignalled("a", 7, 111, ReceiverParams{HoldBack: 1})), 1)
 	_, err := b.OpenUnsignalled("a", 7, 111, ReceiverParams{})
 	refused(t, err, ErrSSRCNotNamed)
-	sender := must[*Sender](t)(NewSender("opus", Format{ClockRate: 48000}, SenderParams{SSRC: 7, PayloadType: 111, MTU: 100,
-		Limit: 200}))
+	params := SenderParams{SSRC: 7, PayloadType: 111, MTU: 100, Limit: 200}
+	sender := must[*Sender](t)(NewSender("opus", Format{ClockRate: 48000}, params))
 	var heard []byte
 	for k := byte(0); k < 4; k++ {
 		datagram := must[[][]byte](t)(sender.PushSample(960*uint64(k), []byte{k}))[0]

@@ -281,7 +281,7 @@ func TestErrorsTellTheirPlace(t *testing.T) {
 		code  Error
 		place string
 	}{
-		{rows(opus, Row{PayloadType: 0, Codec: "PCMU", ClockRate: 8000}, Row{PayloadType: 111, Codec: "VP8", ClockRate: 90000}),
+		{rows(opus, Row{Codec: "PCMU", ClockRate: 8000}, Row{PayloadType: 111, Codec: "VP8", ClockRate: 90000}),
 			ErrTypesNotDistinct, "row VP8 at type 111"},
 		{rows(opus, Row{PayloadType: 9, Codec: "G722", ClockRate: 44100}), ErrRowNotPlain, "row G722 at type 9"},
 		{rows(opus, Row{PayloadType: 9, Codec: "G722"}), ErrOutOfRange, "row G722 at type 9"},

@@ -89,8 +89,8 @@ func (e *End) OpenUnsignalled(mid string, ssrc uint32, payloadType uint8, params
 }
 
 // PushSample sends a sample at a time in ticks of the row's clock, and returns its datagrams, which are parts of one
-// block of memory. They carry the values that are given, and the mid if it isn't empty, each if the agreed map has an id
-// for it (RFC 8285, RFC 9143 section 15). It returns [ErrNotText] or [ErrMidNotKept], [ErrNoStream], or the first that
+// block of memory. They carry the values that are given, and the mid if it isn't empty, each if the agreed map has an
+// id for it (RFC 8285, RFC 9143 section 15). It returns [ErrNotText] or [ErrMidNotKept], [ErrNoStream], or the first that
 // applies of [ErrStreamFailed], [ErrTimeTooLarge], [ErrLimitTooSmall] and [ErrPayload]; or [ErrMemory], and the stream
 // sends no more.
 func (e *End) PushSample(stream int, ticks uint64, sample []byte, values Values, mid string) ([][]byte, error) {
@@ -115,7 +115,8 @@ func (e *End) AppendDatagrams(list [][]byte, stream int, ticks uint64, sample []
 }
 
 // push leaves the datagrams of a sample, and the end locked.
-func (e *End) push(stream int, ticks uint64, sample []byte, values *Values, mid string) (*owned[C.jilqamur_end], error) {
+func (e *End) push(stream int, ticks uint64, sample []byte, values *Values, mid string) (*owned[C.jilqamur_end],
+	error) {
 	if err := keepsMid(mid); err != nil {
 		return nil, at(err, func() Place { return Place{Mids: []string{mid}} })
 	}

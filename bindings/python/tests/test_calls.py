@@ -5,7 +5,8 @@ import unittest
 from pathlib import Path
 
 from jilqamur import (EXTENSIONS, Arrival, Code, Depacketizer, Direction, End, Event, ExtensionIds, FaultyLine,
-                      Format, Forwarder, Header, LineFault, PacketInfo, Packetizer, Placed, Receiver, Refused, Row, Section,
+                      Format, Forwarder, Header, LineFault, PacketInfo, Packetizer, Placed, Receiver, Refused, Row,
+                      Section,
                       SectionRequest, Sender, Setup, Taken, Values, Verdict, Window, faulty_line, packet_info,
                       payload_of, read_header, read_values, widen, write_header)
 
@@ -269,8 +270,9 @@ class EachThing(unittest.TestCase):
         unit = depacketizer.pop()
         assert unit is not None
         self.assertEqual((unit.picture_id, unit.base_layer, unit.event), (5, 7, None))
+        events = Row(96, "telephone-event", 8000, format="0-16")
         for row, is_video, payload, told in ((Row(96, "VP8", 90000), True, frame, (5, 7, None)),
-                                             (Row(96, "telephone-event", 8000, format="0-16"), False, reports, (None, None, wanted))):
+                                             (events, False, reports, (None, None, wanted))):
             a, b = talking(row, is_video=is_video)
             a.open_sender("0", 1, 96)
             b.open_receiver("0", 1, 96, 2)

@@ -24,7 +24,8 @@ THREADS = 4
 
 FUNCTIONS = ("read_header", "write_header", "read_values", "payload_of", "packet_info", "faulty_line", "widen")
 OWNERS = (End, Window, Packetizer, Depacketizer, Sender, Receiver, Forwarder)
-CODECS = ("opus", "PCMU", "G722", "CN", "AMR-WB", "telephone-event", "VP8", "VP9", "AV1", "H264", "H265", "H266", "none")
+CODECS = ("opus", "PCMU", "G722", "CN", "AMR-WB", "telephone-event", "VP8", "VP9", "AV1", "H264", "H265", "H266",
+          "none")
 
 
 @cache
@@ -108,7 +109,8 @@ class Maker:
         codec = self.random.choice(CODECS)
         return Row(self.number(127), codec, self.random.choice([8000, 16000, 48000, 90000, self.number(0xffffffff)]),
                    channels=self.random.choice([None, None, 2, self.number(255)]),
-                   resend=self.random.choice([None, self.number(127)]), red=self.random.choice([None, self.number(127)]),
+                   resend=self.random.choice([None, self.number(127)]),
+                   red=self.random.choice([None, self.number(127)]),
                    format=self.random.choice(["", "", "minptime=10", "octet-align=1", "x" * 300, "\r\n"]))
 
     def values(self) -> Any:
@@ -134,7 +136,8 @@ class Maker:
                 [*jilqamur.EXTENSIONS.values(), "urn:x y", "\ud800"], 2)},
             "ids": lambda: ExtensionIds(**{name: self.number(16) for name in ("mid", "audio_level", "rid")}),
             "format": lambda: Format(self.random.choice([48000, 90000, 8000, self.number(0xffffffff)]),
-                                     self.random.choice([None, True, False]), self.random.choice([None, self.number(9)])),
+                                     self.random.choice([None, True, False]),
+                                     self.random.choice([None, self.number(9)])),
             "codec": lambda: self.random.choice([*CODECS, self.text()]), "distances": lambda: self.random.choice(
                 [None, [1, 3], [9], self.data(), [self.number(255)]]),
             "mtu": lambda: self.random.choice([2, 30, 1200, self.number(1 << 64)]),

@@ -77,7 +77,8 @@ impl<'a> Datagrams<'a> {
     /// # use jilqamur::{Direction, End, Kind, Section, StreamParams};
     /// # let mut a = End::builder().codec("opus", 111).session(1).build()?;
     /// # let mut b = End::builder().codec("opus", 111).session(2).build()?;
-    /// # let audio = |ssrcs| Section { mid: "0", kind: Kind::Audio, direction: Direction::SendRecv, ssrcs, repairs: &[] };
+    /// # let direction = Direction::SendRecv;
+    /// # let audio = |ssrcs| Section { mid: "0", kind: Kind::Audio, direction, ssrcs, repairs: &[] };
     /// # let offer = a.offer(&[audio(&[44])])?;
     /// # let answer = b.answer(&offer, &[audio(&[45])])?;
     /// # a.accept(&answer)?;

@@ -92,8 +92,8 @@ impl End {
     /// are how many payloads back redundancy reaches: rising, 1 to 8, for a row with a RED type.
     ///
     /// # Errors
-    /// `MidNotKept`, `NotMade`, `OutOfRange`, `NoSection`, `RowNotAgreed`, `RowDiffers`, `WrongDirection`, `SsrcNotNamed`,
-    /// `AlreadyOpen` or `Memory`; nothing has changed.
+    /// `MidNotKept`, `NotMade`, `OutOfRange`, `NoSection`, `RowNotAgreed`, `RowDiffers`, `WrongDirection`,
+    /// `SsrcNotNamed`, `AlreadyOpen` or `Memory`; nothing has changed.
     pub fn open_sender(
         &mut self,
         mid: &str,
@@ -194,7 +194,8 @@ impl End {
     /// and the agreed map has a number for it.
     ///
     /// # Errors
-    /// `MidNotKept`, `NotMade`, `NoStream`, `StreamFailed`, `TimeTooLarge`, `LimitTooSmall` or `Payload`, and nothing has changed; or
+    /// `MidNotKept`, `NotMade`, `NoStream`, `StreamFailed`, `TimeTooLarge`, `LimitTooSmall` or `Payload`, and nothing
+    /// has changed; or
     /// `Memory`, and the stream sends no more.
     pub fn push_sample(
         &mut self,

@@ -78,7 +78,8 @@ impl End {
     /// The text of the answer to an offer, of these sections (RFC 3264 6); it is then agreed.
     ///
     /// # Errors
-    /// `MidNotKept`, `NotMade`, `OutOfRange` if the repairs of a section aren't sound, `TextUnreadable`, `OutOfTurn`, `NotMedia`,
+    /// `MidNotKept`, `NotMade`, `OutOfRange` if the repairs of a section aren't sound, `TextUnreadable`, `OutOfTurn`,
+    /// `NotMedia`,
     /// `NotCorresponding`, `Round`, `NoCommonRow`, `NotWritable` or `Memory`; the end is unchanged.
     pub fn answer(&mut self, offer: &str, sections: &[Section<'_>]) -> Result<String, EndError> {
         self.sections(sections)?;
