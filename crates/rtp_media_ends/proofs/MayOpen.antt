@@ -2,9 +2,9 @@
 use Rattle.std.proofs.Common.{◌≡◌, ℕ, refl, sym, ◌∙◌, ap, Bool, true, false, List}
 use Rattle.std.specs.Prelude.{Option, Some, None, if◌then◌else◌}
 use Rattle.std.specs.List.{list_any}
-use Rattle.rtp_media_sections.specs.Agreement.{Agreed, is_named, own_row_agrees, row_in, section_of}
+use Rattle.rtp_media_sections.specs.Agreement.{Agreed, is_named, row_in, section_of}
 use Rattle.sdp_formats_rows.specs.Rows.{Row}
-use Rattle.rtp_media_ends.specs.Ends.{EndState, carried, carried_row, is_carried, receiver_refusal_in}
+use Rattle.rtp_media_ends.specs.Ends.{EndState, agrees_in, carried, carried_row, is_carried, receiver_refusal_in}
 use Rattle.rtp_media_ends.specs.Ends.{receiver_refusal_of, refusal_by, refusal_of_open_receiver}
 use Rattle.rtp_media_stream_table.specs.Streams.{receives_as}
 use Rattle.rtp_media_ends.specs.Ends.{refusal_of_open_sender, sender_refusal_in, sender_refusal_of}
@@ -57,7 +57,7 @@ sends-at e mid ssrc pt h = go (section_of e.exchange.agreed mid) refl h where
       → sender_refusal_of e.exchange.config.rows a e.streams ssrc pt o ≡ None → SendsAt e mid ssrc pt
   with-row a is None row h = absurd (no-some _ h)
   with-row a is (Some row) found h =
-      let all : AllHold (own_row_agrees e.exchange.config.rows row) a.sends (is_named a.own_ssrcs ssrc)
+      let all : AllHold (agrees_in e.exchange.config.rows a row) a.sends (is_named a.own_ssrcs ssrc)
       (list_any (sends_as ssrc (types_of row ssrc a.own_repairs)) e.streams) = all-hold _ _ _ _ h in
       let there : IsCarried (row_in a.rows pt) row = carried-is (row_in a.rows pt) row found in
       record {
@@ -85,7 +85,7 @@ may-send e mid ssrc pt at =
     ap (λ (o : Option Agreed). sender_refusal_in e.exchange.config.rows o e.streams ssrc pt) at.agreed
     ∙ ap (λ (o : Option Row). sender_refusal_of e.exchange.config.rows a e.streams ssrc pt o)
     (is-carried (row_in a.rows pt) at.row at.row_is at.carried)
-    ∙ none-refuses (own_row_agrees e.exchange.config.rows at.row) a.sends (is_named a.own_ssrcs ssrc)
+    ∙ none-refuses (agrees_in e.exchange.config.rows a at.row) a.sends (is_named a.own_ssrcs ssrc)
     (list_any (sends_as ssrc (types_of at.row ssrc a.own_repairs)) e.streams)
     (record { agree = at.own_row; flow = at.flows; name = at.named; first = at.not_open })
 
@@ -97,7 +97,7 @@ receives-at e mid ssrc pt h = go (section_of e.exchange.agreed mid) refl h where
       → receiver_refusal_of e.exchange.config.rows a e.streams ssrc pt o ≡ None → ReceivesAt e mid ssrc pt
   with-row a is None row h = absurd (no-some _ h)
   with-row a is (Some row) found h =
-      let all : AllHold (own_row_agrees e.exchange.config.rows row) a.receives (is_named a.remote_ssrcs ssrc)
+      let all : AllHold (agrees_in e.exchange.config.rows a row) a.receives (is_named a.remote_ssrcs ssrc)
       (list_any (receives_as ssrc (types_of row ssrc a.remote_repairs)) e.streams) = all-hold _ _ _ _ h in
       let there : IsCarried (row_in a.rows pt) row = carried-is (row_in a.rows pt) row found in
       record {
@@ -125,6 +125,6 @@ may-receive e mid ssrc pt at =
     ap (λ (o : Option Agreed). receiver_refusal_in e.exchange.config.rows o e.streams ssrc pt) at.agreed
     ∙ ap (λ (o : Option Row). receiver_refusal_of e.exchange.config.rows a e.streams ssrc pt o)
     (is-carried (row_in a.rows pt) at.row at.row_is at.carried)
-    ∙ none-refuses (own_row_agrees e.exchange.config.rows at.row) a.receives (is_named a.remote_ssrcs ssrc)
+    ∙ none-refuses (agrees_in e.exchange.config.rows a at.row) a.receives (is_named a.remote_ssrcs ssrc)
     (list_any (receives_as ssrc (types_of at.row ssrc a.remote_repairs)) e.streams)
     (record { agree = at.own_row; flow = at.flows; name = at.named; first = at.not_open })

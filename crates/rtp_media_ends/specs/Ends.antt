@@ -1,4 +1,4 @@
-use Rattle.std.specs.Prelude.{◌≡◌, ℕ, Bool, true, not, nat_le, ◌==◌, ◌&&◌, List, [], ◌∷◌, ◌++◌}
+use Rattle.std.specs.Prelude.{◌≡◌, ℕ, Bool, true, not, nat_le, ◌==◌, ◌&&◌, ◌||◌, List, [], ◌∷◌, ◌++◌}
 use Rattle.std.specs.Prelude.{Option, Some, None, if◌then◌else◌, unwrap_or}
 use Rattle.std.specs.List.{list_any}
 use Rattle.rtp_wire.specs.Maps.{empty_map}
@@ -138,10 +138,15 @@ refusal_by agrees flows names is_open =
     else if is_open then Some AlreadyOpen
     else None
 
+-- Whether an end's rows agree with a row of an agreed section: one of them is locked under its type and is the same to a
+-- stream; or the section took its rows from a text.
+abbrev pub agrees_in : List Row → Agreed → Row → Bool
+agrees_in own a row = a.by_text || own_row_agrees own row
+
 abbrev pub sender_refusal_of : List Row → Agreed → List OpenStream → ℕ → ℕ → Option Row → Option OpenError
 sender_refusal_of own a streams ssrc pt None = Some (refusal_of_row (row_in a.rows pt))
 sender_refusal_of own a streams ssrc pt (Some row) =
-    refusal_by (own_row_agrees own row) a.sends (is_named a.own_ssrcs ssrc)
+    refusal_by (agrees_in own a row) a.sends (is_named a.own_ssrcs ssrc)
     (list_any (sends_as ssrc (types_of row ssrc a.own_repairs)) streams)
 
 abbrev pub sender_refusal_in : List Row → Option Agreed → List OpenStream → ℕ → ℕ → Option OpenError
@@ -151,7 +156,7 @@ sender_refusal_in own (Some a) streams ssrc pt = sender_refusal_of own a streams
 abbrev pub receiver_refusal_of : List Row → Agreed → List OpenStream → ℕ → ℕ → Option Row → Option OpenError
 receiver_refusal_of own a streams ssrc pt None = Some (refusal_of_row (row_in a.rows pt))
 receiver_refusal_of own a streams ssrc pt (Some row) =
-    refusal_by (own_row_agrees own row) a.receives (is_named a.remote_ssrcs ssrc)
+    refusal_by (agrees_in own a row) a.receives (is_named a.remote_ssrcs ssrc)
     (list_any (receives_as ssrc (types_of row ssrc a.remote_repairs)) streams)
 
 abbrev pub receiver_refusal_in : List Row → Option Agreed → List OpenStream → ℕ → ℕ → Option OpenError
@@ -177,7 +182,7 @@ may_be_sent (named ∷ rest) ssrc = is_named (named ∷ rest) ssrc
 abbrev pub unsignalled_refusal_of : List Row → Agreed → List OpenStream → ℕ → ℕ → Option Row → Option OpenError
 unsignalled_refusal_of own a streams ssrc pt None = Some (refusal_of_row (row_in a.rows pt))
 unsignalled_refusal_of own a streams ssrc pt (Some row) =
-    refusal_by (own_row_agrees own row) a.receives (may_be_sent a.remote_ssrcs ssrc)
+    refusal_by (agrees_in own a row) a.receives (may_be_sent a.remote_ssrcs ssrc)
     (list_any (receives_as ssrc (types_of row ssrc a.remote_repairs)) streams)
 
 abbrev pub unsignalled_refusal_in : List Row → Option Agreed → List OpenStream → ℕ → ℕ → Option OpenError

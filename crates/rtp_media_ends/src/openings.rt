@@ -5,7 +5,7 @@ ghost use Rattle.std.specs.List.{list_any};
 ghost use Rattle.rtp_media_sections.specs.Agreement.{agreed_row_of, own_repairs_of, remote_repairs_of, row_in};
 ghost use Rattle.rtp_media_sections.specs.Agreement.{section_of};
 ghost use Rattle.rtp_media_ends.specs.Repairs.{IsKeyBeside};
-ghost use Rattle.rtp_media_ends.specs.Ends.{carried_row, end_of, is_carried, refusal_by};
+ghost use Rattle.rtp_media_ends.specs.Ends.{agrees_in, carried_row, end_of, is_carried, refusal_by};
 ghost use Rattle.rtp_media_stream_table.specs.Streams.{receives_as};
 ghost use Rattle.rtp_media_ends.specs.Ends.{may_be_sent, refusal_of_open_receiver, refusal_of_open_sender};
 ghost use Rattle.rtp_media_ends.specs.Ends.{refusal_of_open_unsignalled, refusal_of_row};
@@ -44,7 +44,7 @@ pub(crate) fn sender_row(
     let row = carried_row(section, pt)?;
     let types = types_of(&row, ssrc, section.own_repair_of(ssrc));
     let refusal = opening_refusal(
-        exchange.agrees_with(&row),
+        agrees_in(exchange, section, &row),
         section.is_sending(),
         section.names_own(ssrc),
         streams.could_send(ssrc, &types),
@@ -76,7 +76,7 @@ pub(crate) fn receiver_row(
     let row = carried_row(section, pt)?;
     let types = types_of(&row, ssrc, section.remote_repair_of(ssrc));
     let refusal = opening_refusal(
-        exchange.agrees_with(&row),
+        agrees_in(exchange, section, &row),
         section.is_receiving(),
         section.names_remote(ssrc),
         streams.could_receive(ssrc, &types),
@@ -109,7 +109,7 @@ pub(crate) fn unsignalled_row(
     let row = carried_row(section, pt)?;
     let types = types_of(&row, ssrc, section.remote_repair_of(ssrc));
     let refusal = opening_refusal(
-        exchange.agrees_with(&row),
+        agrees_in(exchange, section, &row),
         section.is_receiving(),
         may_be_sent(section, ssrc),
         streams.could_receive(ssrc, &types),
@@ -125,6 +125,13 @@ fn may_be_sent(section: &AgreedSection, ssrc: Ssrc) -> bool
     ensures { result ≡ may_be_sent section.now.remote_ssrcs ssrc }
 {
     section.remote_ssrcs().is_empty() || section.names_remote(ssrc)
+}
+
+/// Whether the end's rows agree with a section's, or the section took its rows from a text.
+fn agrees_in(exchange: &Exchange, section: &AgreedSection, row: &PayloadParams) -> bool
+    ensures { result ≡ agrees_in exchange.now.config.rows section.now row.now }
+{
+    section.goes_by_text() || exchange.agrees_with(row)
 }
 
 /// Why no stream can be opened for a section's row: the first reason that applies.

@@ -6,3 +6,4 @@ pub mod Reading
 pub mod Refusals
 pub mod Says
 pub mod Requests
+pub mod TakenTypes

@@ -8,6 +8,7 @@ ghost use Rattle.rtp_media_sections.specs.Agreement.{own_row_agrees, section_of}
 ghost use Rattle.sdp_formats_reader.specs.Writable.{IsWritableSession};
 
 mod answer;
+mod by_text;
 mod offer;
 mod settle;
 

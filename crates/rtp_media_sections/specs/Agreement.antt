@@ -1,5 +1,5 @@
 -- What an exchange agreed on, and which streams that allows.
-use Rattle.std.specs.Prelude.{◌≡◌, ℕ, Bool, true, false, ◌&&◌, ◌==◌, List, [], ◌∷◌, Option, Some, None, find}
+use Rattle.std.specs.Prelude.{◌≡◌, ℕ, Bool, true, false, ◌&&◌, ◌==◌, List, [], ◌∷◌, Option, Some, None, filter, find}
 use Rattle.std.specs.BTreeSet.{BTreeSet, contains}
 use Rattle.std.specs.Ordering.{nat_cmp}
 use Rattle.std.specs.Str.{bytes_eq}
@@ -22,7 +22,8 @@ use Rattle.rtp_media_sections.specs.Lines.{repairs_of, ssrcs_of}
 use Rattle.rtp_media_sections.specs.Sections.{Section, Wanted, are_distinct, has_shape}
 
 -- A section as agreed: its mid and kind; the answer's rows and extension map; the SSRCs each end names in it, and their
--- (SSRC, RTX SSRC) pairs; and whether media flows from this end and to it.
+-- (SSRC, RTX SSRC) pairs; whether media flows from this end and to it; and whether its rows were taken from a text of
+-- its own afterwards, and need not be those under which the end's rows are locked.
 pub record Agreed : Type 0 where
   pub mid : List ℕ
   pub kind : MediaKind
@@ -34,6 +35,7 @@ pub record Agreed : Type 0 where
   pub remote_repairs : List (ℕ × ℕ)
   pub sends : Bool
   pub receives : Bool
+  pub by_text : Bool
 
 abbrev pub is_agreed : Agreed × Wanted → Bool
 is_agreed p = has_shape p.0.mid p.0.kind p.1
@@ -61,6 +63,7 @@ fixed_section = record {
   remote_repairs = [];
   sends = true;
   receives = true;
+  by_text = false;
 }
 
 -- An agreed section: mid, kind, rows and extensions from the answer; SSRCs and RTX pairs from what this end wanted and
@@ -77,6 +80,7 @@ agreed w remote answer from to = record {
   remote_repairs = repairs_of remote;
   sends = from;
   receives = to;
+  by_text = false;
 }
 
 -- What the answering end agrees on: media flows as the answer says.
@@ -162,6 +166,25 @@ means_same a b = same_codec a.spec b.spec && (same_layout a.spec.format b.spec.f
 -- Whether one of an end's own rows is locked with the agreed row's payload type and is the same to a stream.
 unfoldable pub own_row_agrees : List Row → Row → Bool
 own_row_agrees own row = list_any (λ r. r.locked && ((r.pt == row.pt) && means_same r row)) own
+
+-- Whether an end has a row under some type: one of its own locked rows has the same codec, clock rate, channels and
+-- payload layout.
+unfoldable pub has_alike : List Row → Row → Bool
+has_alike own row = list_any (λ r. r.locked && (same_codec r.spec row.spec
+    && same_layout r.spec.format row.spec.format)) own
+
+-- An agreed section with the rows that a text's section lists, as far as the end has them.
+abbrev pub taken_from : List Row → Option Section → Agreed → Agreed
+taken_from own None a = a
+taken_from own (Some s) a = record a { rows = filter (has_alike own) s.rows; by_text = true }
+
+-- Whether a text's section is that of an agreed one, and isn't rejected.
+abbrev pub is_text_of : Agreed → Section → Bool
+is_text_of a s = s.is_media && bytes_eq s.mid a.mid
+
+-- An agreed section with the rows of a text's section of its name.
+abbrev pub with_text : List Row → List Section → Agreed → Agreed
+with_text own sections a = taken_from own (find (is_text_of a) sections) a
 
 -- The agreed rows are exactly those that the text's sections list, and so are the extension maps.
 pub record AgreesOn (sections : List Section) (agreed : List Agreed) : Type 0 where

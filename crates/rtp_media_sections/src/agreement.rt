@@ -7,6 +7,8 @@ ghost use Rattle.rtp_media_sections.specs.Agreement.{is_named, row_in};
 ghost use Rattle.rtp_media_sections.specs.Lines.{ssrcs_of};
 ghost use Rattle.rtp_media_sections.specs.Repairs.{repairing_of};
 
+mod by_text;
+
 use crate::extmaps::map_of_extmaps;
 use crate::repairs::{repairing_of, repairs_in};
 use crate::sections::Section;
@@ -32,6 +34,7 @@ pub struct AgreedSection {
     remote_repairs: Vec<(Ssrc, Ssrc)>,
     sends: bool,
     receives: bool,
+    by_text: bool,
 }
 
 /// Written by hand, so that crates that drop this type need no proof about its fields.
@@ -48,6 +51,7 @@ impl Drop for AgreedSection {
             remote_repairs: _remote_repairs,
             sends: _sends,
             receives: _receives,
+            by_text: _by_text,
         } = self;
     }
 }
@@ -68,6 +72,7 @@ impl Model for AgreedSection {
       remote_repairs = a.remote_repairs.items;
       sends = a.sends;
       receives = a.receives;
+      by_text = a.by_text;
     } };
 }
 
@@ -109,6 +114,7 @@ impl AgreedSection {
             remote_repairs: Vec::new(alloc),
             sends: true,
             receives: true,
+            by_text: false,
         })
     }
 
@@ -257,6 +263,7 @@ fn agreed(
         remote_repairs: repairs_in(alloc, remote.sources.as_slice())?,
         sends,
         receives,
+        by_text: false,
     })
 }
 

@@ -1,8 +1,8 @@
 //! What rows mean to streams.
 
-ghost use Rattle.std.specs.Prelude.{◌≡◌};
+ghost use Rattle.std.specs.Prelude.{◌≡◌, ◌&&◌};
 ghost use Rattle.sdp_formats_rows.specs.Same.{same};
-ghost use Rattle.rtp_media_sections.specs.Agreement.{means_same, own_row_agrees, same_codec, same_layout};
+ghost use Rattle.rtp_media_sections.specs.Agreement.{has_alike, means_same, own_row_agrees, same_codec, same_layout};
 
 use rtp_wire::Pt;
 use sdp_formats_rows::{
@@ -30,6 +30,13 @@ fn same_layout(a: &FormatParams, b: &FormatParams) -> bool
         && same_half_word(a.sprop_max_don_diff, b.sprop_max_don_diff)
 }
 
+/// Whether two rows have the same payloads.
+fn is_alike(own: &PayloadParams, row: &PayloadParams) -> bool
+    ensures { result ≡ (same_codec own.now.spec row.now.spec && same_layout own.now.spec.format row.now.spec.format) }
+{
+    same_codec(&own.spec(), &row.spec()) && same_layout(&own.spec().format, &row.spec().format)
+}
+
 /// Whether two rows mean the same to a stream.
 fn means_same(own: &PayloadParams, row: &PayloadParams) -> bool
     ensures { result ≡ means_same own.now row.now }
@@ -46,4 +53,13 @@ pub fn own_row_agrees(own: &[PayloadParams], row: &PayloadParams) -> bool
     ensures { result ≡ own_row_agrees own.now row.now }
 {
     own.iter().any(|r| r.is_locked() && r.pt().get() == row.pt().get() && means_same(r, row))
+}
+
+/// Whether an end has a row under some type: one of its own locked rows has the same codec, clock rate, channels and
+/// layout of payloads.
+#[tactic(auto, unfolding(crate::specs::Agreement::has_alike))]
+pub(crate) fn has_alike(own: &[PayloadParams], row: &PayloadParams) -> bool
+    ensures { result ≡ has_alike own.now row.now }
+{
+    own.iter().any(|r| r.is_locked() && is_alike(r, row))
 }

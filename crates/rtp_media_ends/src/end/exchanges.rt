@@ -8,7 +8,9 @@ ghost use Rattle.rtp_media_exchange.specs.Refusals.{MayAccept, MayAnswer, Refuse
 ghost use Rattle.rtp_media_exchange.specs.Refusals.{RefusesNew, refusal_of_new, refusal_of_offer};
 ghost use Rattle.sdp_formats_reader.specs.Writable.{IsWritableSession};
 ghost use Rattle.rtp_media_exchange.specs.Says.{AgreesOnText};
+ghost use Rattle.rtp_media_exchange.specs.Reading.{IsUnread};
 ghost use Rattle.rtp_media_exchange.specs.Requests.{SaysOffer};
+ghost use Rattle.rtp_media_exchange.specs.TakenTypes.{TakesTypes};
 ghost use Rattle.rtp_media_sections.specs.Sections.{are_sound};
 ghost use Rattle.rtp_media_ends.specs.Ends.{new_end, with_exchange};
 ghost use Rattle.rtp_media_ends.specs.Connections.{Connects, HaveExchanged, HaveOneAgreement, IsRefused};
@@ -111,6 +113,25 @@ impl End {
     {
         let exchange = &mut self.exchange;
         exchange.accept(text)
+    }
+
+    /// Takes the rows of the agreed sections from a text, each from the section of its name (RFC 3264 6.1): the streams
+    /// that are opened from then on have the payload types, the types of retransmissions and of redundancy that this
+    /// section lists, as far as the end has such rows under some type. Sections that the text doesn't have, or rejects,
+    /// and streams that are open stay as they are.
+    ///
+    /// For an answer to a browser hand it the browser's text of the answer, for a browser's answer what `accept` took.
+    ///
+    /// # Errors
+    /// `Unreadable`; or `Memory`. The end is then unchanged.
+    pub fn take_types(&mut self, text: &str) -> Result<(), ExchangeError>
+        ensures after { OnOk result (TakesTypes self.old.exchange text.now self.new.exchange) }
+        ensures streams { self.new ≡ with_exchange self.old self.new.exchange }
+        ensures refused { IfErr result (λ e. IsUnread text.now e) }
+        ensures unchanged { OnErr result (self.new ≡ self.old) }
+    {
+        let exchange = &mut self.exchange;
+        exchange.take_types(text)
     }
 
     /// Whether an offer was pending, which is now given up; all else stays.

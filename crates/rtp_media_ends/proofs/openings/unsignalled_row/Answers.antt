@@ -13,7 +13,7 @@ returns-in-None-clause-opens c =
     ≡ c.opening_refusal-refusal.result =
     ((unsignalled-refusal c.args.exchange.now.config.rows c.args.exchange.now.agreed _
     c.args.mid c.args.ssrc c.args.pt _ c.in_ok-row.row _ _ _ _ c.in_ok-section.ensures.found c.in_ok-row.ensures.found
-    c.agrees_with.ensures c.is_receiving.ensures c.may_be_sent.ensures
+    c.agrees_in.ensures c.is_receiving.ensures c.may_be_sent.ensures
     (c.could_receive.ensures
     ∙ ap (λ types. list_any (receives_as c.args.ssrc types) c.args.streams.now) (c.types_of-types.ensures.value
     ∙ ap (types_by c.in_ok-row.row c.args.ssrc) c.remote_repair_of.ensures))))
@@ -27,7 +27,7 @@ returns-in-Some-clause-refused c =
     ≡ c.opening_refusal-refusal.result =
     ((unsignalled-refusal c.args.exchange.now.config.rows c.args.exchange.now.agreed _
     c.args.mid c.args.ssrc c.args.pt _ c.in_ok-row.row _ _ _ _ c.in_ok-section.ensures.found c.in_ok-row.ensures.found
-    c.agrees_with.ensures c.is_receiving.ensures c.may_be_sent.ensures
+    c.agrees_in.ensures c.is_receiving.ensures c.may_be_sent.ensures
     (c.could_receive.ensures
     ∙ ap (λ types. list_any (receives_as c.args.ssrc types) c.args.streams.now) (c.types_of-types.ensures.value
     ∙ ap (types_by c.in_ok-row.row c.args.ssrc) c.remote_repair_of.ensures))))
