@@ -4,9 +4,12 @@
 Each text that a browser gets for its offer has the offer's sections in their order and under their names (RFC 3264 6,
 RFC 8829 5.3.1). One that the end never sees, as it is of data, of port 0, has no request, or has no codec in common,
 is rejected: of port 0, without direction both ways, without lines of the transport, and in no bundle (RFC 9143 7.3.3).
-Each other one has a direction that the offer and the request allow (RFC 3264 6.1), types of the offer alone, in its order
-and with the meaning that they have there (RFC 3264 6.1), extensions of the offer alone (RFC 8285 6), and the
-transport's lines behind its name. An end's own offer has the sections of the last text in their places, except where
+Each other one has a direction that the offer and the request allow (RFC 3264 6.1), types of this section of the offer
+alone, in its order and with the meaning that they have there (RFC 3264 6.1): codec, profile, mode of packets, the type
+that they repair or add redundancy to, and feedback (RFC 4588 8.1, RFC 2198 5, RFC 4585 4.2); extensions of the offer
+alone (RFC 8285 6), and the transport's lines behind its name. One whose codecs an earlier section has under other types
+may only receive. What the end agreed on in a section is what its text lists. What an end is handed has each parameter
+that it knows, and no other (RFC 8866 6.15). An end's own offer has the sections of the last text in their places, except where
 the last exchange has port 0: there are the new ones, in order, and those that are left follow (RFC 3264 8.1, RFC 8829
 5.2.2). The version of `o=` is that of the last text where the two are the same, and
 the next one where they aren't (RFC 3264 8). Sources have the CNAME, and sections that send the tracks, that were given
@@ -53,14 +56,48 @@ def bundle(lines):
     return [value.split()[1:] for value in values(lines, "group") if value.startswith("BUNDLE")]
 
 
+def parameters(text):
+    """The keys in small letters, each with its value, of the parts that have one."""
+    pairs = [part.split("=", 1) for part in text.split(";") if re.fullmatch(r"[ \t]*[^ \t=]+=[^ \t]+[ \t]*", part)]
+    return [(key.strip().lower(), value.strip()) for key, value in pairs]
+
+
+def formats(lines, pt):
+    return dict(pair for value in values(lines, "fmtp") if value.split(" ", 1)[0] == pt
+                for pair in parameters(value.partition(" ")[2]))
+
+
+def shape(lines, pt):
+    """What both sides have alike: profile and mode of packets (RFC 6184 8.2.2, RFC 9628 7, RFC 7798 7.1)."""
+    codec, said = meanings(lines)[pt].split("/")[0], formats(lines, pt)
+    if codec == "h264":
+        return said.get("packetization-mode", "0"), said.get("profile-level-id", "42")[:2]
+    if codec in ("vp9", "h265", "av1"):
+        return (said.get("profile" if codec == "av1" else "profile-id", {"h265": "1"}.get(codec, "0")),)
+    if codec == "rtx":
+        return (said.get("apt"),)
+    if codec == "red":
+        return tuple(value.split(" ")[1].split("/")[0] for value in values(lines, "fmtp") if value.split(" ")[0] == pt)
+    return ()
+
+
+def feedback(lines, pt):
+    return {value.split(" ", 1)[1] for value in values(lines, "rtcp-fb") if value.split(" ", 1)[0] in (pt, "*")}
+
+
+KNOWN = {"minptime", "stereo", "sprop-stereo", "useinbandfec", "usedtx", "level-asymmetry-allowed", "tier-flag",
+         "packetization-mode", "profile-level-id", "profile-id", "profile", "level-idx", "tier", "level-id", "apt",
+         "sprop-max-don-diff", "octet-align", "mode-set"}
 CODECS = {"opus", "pcmu", "pcma", "g722", "cn", "telephone-event", "vp8", "vp9", "av1", "h264", "h265"}
 
 
 def in_use(offered, bundled):
-    """Whether a section of an offer is audio or video, and not rejected (RFC 9143 6 has port 0 with `bundle-only`)."""
+    """Whether a section of an offer is audio or video, and not rejected (RFC 9143 6 has port 0 with `bundle-only`), nor
+    outside of the bundle, with a transport of its own (RFC 9143 7.3)."""
     kind, port = offered[0][2:].split()[:2]
     named = values(offered, "mid")[0] in bundled
-    return kind in ("audio", "video") and (port != "0" or (named and bool(values(offered, "bundle-only"))))
+    return (kind in ("audio", "video") and (named or not bundled)
+            and (port != "0" or (named and bool(values(offered, "bundle-only")))))
 
 
 def requests_of(command, words, offered, bundled):
@@ -100,16 +137,27 @@ def faults_of_transport(given):
         yield "the transport doesn't stand behind its name"
 
 
-def faults_of_kept(offered, request, given):
+def is_renamed(offered, earlier):
+    """Whether an earlier section has a codec of this one under a type that this one doesn't have."""
+    here, there = meanings(offered), [meanings(lines) for lines in earlier]
+    return any(meaning in maps.values() and maps.get(pt) != meaning for pt, meaning in here.items() for maps in there)
+
+
+def faults_of_kept(offered, request, given, renamed):
     """What a section that is answered must not say."""
     yield from faults_of_transport(given)
     (they_send, they_receive), (sends, receives) = way(offered), WAYS[request.split(":")[0]]
-    if way(given) != (sends and they_receive, receives and they_send):
+    ways = [(sends and they_receive, receives and they_send)]
+    if renamed:
+        ways.append((False, receives and they_send))
+    if way(given) not in ways:
         yield "another direction"
     there, here = meanings(offered), meanings(given)
     for pt, meaning in here.items():
-        if pt not in there or meaning != there[pt]:
+        if pt not in there or meaning != there[pt] or shape(given, pt) != shape(offered, pt):
             yield f"type {pt} means something else in the offer"
+        for words in feedback(given, pt) - feedback(offered, pt):
+            yield f"type {pt} has {words}, which isn't offered"
     if list(here) != [pt for pt in there if pt in here]:
         yield "types in another order"
     extensions = {value.split()[0].split("/")[0]: value.split()[1] for value in values(offered, "extmap")}
@@ -125,11 +173,48 @@ def faults_of_sections(command, words, head, offered, given):
         yield "other sections, or in another order"
         return
     requests = requests_of(command, words, offered, bundled)
-    for there, request, here in zip(offered, requests, given):
-        if is_seen(there, request, bundled):
-            yield from faults_of_kept(there, request, here)
+    for place, (there, request, here) in enumerate(zip(offered, requests, given)):
+        earlier = [lines for lines, asked in zip(offered[:place], requests) if is_seen(lines, asked, bundled)]
+        renamed = is_renamed(there, earlier)
+        if is_seen(there, request, bundled) and not (renamed and here[0].split()[1] == "0"
+                                                     and not WAYS[request.split(":")[0]][1]):
+            yield from faults_of_kept(there, request, here, renamed)
         else:
             yield from faults_of_rejected(here)
+
+
+def types(lines):
+    """The types of a section, as `96 rtx 97`."""
+    maps = meanings(lines)
+    linked = {role: {formats(lines, pt).get("apt") or (shape(lines, pt) + ("",))[0]: pt for pt, meaning in maps.items()
+                     if meaning.split("/")[0] == role} for role in ("rtx", "red")}
+    return [pt + "".join(f" {role} {linked[role][pt]}" for role in linked if pt in linked[role])
+            for pt, meaning in maps.items() if meaning.split("/")[0] in CODECS]
+
+
+def faults_of_agreed(text, listed):
+    """What an end agreed on in the sections of the last text that it gave a browser, which are in use."""
+    sections = {values(lines, "mid")[0]: lines for lines in parts(text)[1] if lines[0].split()[1] != "0"}
+    for line in listed:
+        name, _, said = line.strip().partition(":")
+        if name in sections and sorted(re.findall(r"\d+(?: (?:rtx|red) \d+)*", said)) != sorted(types(sections[name])):
+            yield f"section {name} isn't agreed on as it is listed"
+
+
+def faults_of_handed(offer, text):
+    """What isn't handed on of known parameters, or is of others."""
+    there = {values(lines, "mid")[0]: lines for lines in named(parts(offer)[1])}
+    for lines in parts(text)[1]:
+        old = there.get(values(lines, "mid")[0], [])
+        for value in values(lines, "fmtp"):
+            pt, _, said = value.partition(" ")
+            before = [v.partition(" ")[2] for v in values(old, "fmtp") if v.partition(" ")[0] == pt]
+            if any(k in KNOWN for k, _ in parameters(before[0] if before else "")) \
+                    and not all(k in KNOWN for k, _ in parameters(said)):
+                yield f"type {pt} has unknown parameters"
+            wanted = {k for k, v in parameters(before[0] if before else "") if k in KNOWN and v != "999"}
+            if wanted != {k for k, _ in parameters(said)}:
+                yield f"type {pt} has other parameters"
 
 
 def faults_of_own(call, words, given):
@@ -211,6 +296,12 @@ def main():
             call.identity = (words[1], {})
         elif command == "track":
             call.identity[1].setdefault(words[0], []).append(" ".join(words[1:]))
+        elif command in ("agreed", "handed") and not text.startswith("  refused"):
+            shown = re.sub(r"^  ", "", text, flags=re.MULTILINE)
+            for fault in (faults_of_agreed(call.text or "", shown.split("\n")[:-1]) if command == "agreed" else
+                          faults_of_handed((CRATE / "data" / words[0]).read_text(encoding="utf-8"), shown)):
+                print(f"{line}: {fault}")
+                wrong = True
         elif command == "answer" and not text.startswith("  refused"):
             given = parts((CRATE / "data" / words[0]).read_text(encoding="utf-8"))[1]
             call.exchanged([values(lines, "mid")[0] for lines in given], given)

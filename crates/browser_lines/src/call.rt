@@ -92,7 +92,9 @@ impl Call {
         }
         let answer = self.end.answer(text.as_str(), sections)?;
         self.state = state;
-        self.with_transport(answer.as_str(), self.own.setup)
+        let text = self.with_transport(answer.as_str(), self.own.setup)?;
+        self.end.take_types(text.as_str())?;
+        Ok(text)
     }
 
     /// The end's offer as the browser gets it.
@@ -117,6 +119,7 @@ impl Call {
             self.state = before;
             return Err(CallError::Exchange(error));
         }
+        self.end.take_types(text.as_str())?;
         Ok(text)
     }
 }

@@ -4,6 +4,7 @@ use crate::call::{Call, CallError};
 use crate::identity::{add_track, identity};
 use crate::remote::put_remote;
 use crate::requests::{named_requests, requests, sections};
+use crate::streams::{put_agreed, put_receiver, put_sender};
 use crate::texts::put_result;
 use crate::transport::Own;
 use rtp_media_browsers::{for_end, requests_for};
@@ -31,6 +32,9 @@ pub(crate) fn answer(
         "identity" => call.state.identity = Some(identity(alloc, name, words)?),
         "track" => add_track(alloc, &mut call.state, name, words)?,
         "withdraw" => reply.put(if call.end.withdraw() { ": yes" } else { ": no" }),
+        "agreed" => put_agreed(&call.end, reply),
+        "sender" => put_sender(&mut call.end, name, words, reply)?,
+        "receiver" => put_receiver(&mut call.end, name, words, reply)?,
         "remote" => put_remote(&call.state.remote, reply),
         "creds" => call.own = Own::of(alloc, name, words)?,
         "candidate" => {

@@ -8,6 +8,7 @@ mod commands;
 mod identity;
 mod remote;
 mod requests;
+mod streams;
 mod texts;
 mod transport;
 

@@ -2,12 +2,13 @@
 use Rattle.std.specs.Prelude.{ℕ, ◌≡◌, Bool, true, false, List}
 use Rattle.rtp_wire.specs.declared.direction.Direction.{Direction}
 use Rattle.rtp_media_browsers.specs.declared.request.SectionRequest.{SectionRequest}
-use Rattle.rtp_media_browsers.specs.declared.request.SectionRequest.TheVariants.{Accept, Reject}
+use Rattle.rtp_media_browsers.specs.declared.request.SectionRequest.TheVariants.{Accept, Receive, Reject}
 use Rattle.jilqamur.specs.Drafts.{DraftState, with_request}
 
 -- The request to accept a section with this direction, SSRCs and RTX pairs, or to reject it.
 abbrev pub IsRequest : Bool → Direction → List ℕ → List (ℕ × ℕ) → SectionRequest → Type 0
 IsRequest true direction ssrcs repairs (Accept d ss rs) = (d ≡ direction) × (ss.items ≡ ssrcs) × (rs.items ≡ repairs)
+IsRequest true direction ssrcs repairs Receive = ⊥
 IsRequest true direction ssrcs repairs Reject = ⊥
 IsRequest false direction ssrcs repairs request = request ≡ Reject
 

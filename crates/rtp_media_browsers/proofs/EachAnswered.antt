@@ -21,8 +21,8 @@ use Rattle.rtp_media_browsers.specs.Following.{is_new, section_named, has_name}
 use Rattle.rtp_media_browsers.specs.ForBrowsers.{bundled_as, section_with_transport, session_with_transport, is_in_use}
 use Rattle.rtp_media_browsers.specs.ForBrowsers.{lite_line, mixed_line, names_in_use, shown, told_section}
 use Rattle.rtp_media_browsers.specs.ForEnds.{bundled, places_of}
-use Rattle.rtp_media_browsers.specs.Identities.{identified, is_track_of, named_line, ordered, track_line, tracks_sent}
-use Rattle.rtp_media_browsers.specs.Identities.{with_order}
+use Rattle.rtp_media_browsers.specs.Identities.{identified, is_track_of, named_line, track_line, tracks_sent}
+use Rattle.rtp_media_browsers.specs.Listing.{listed_for, with_offered, with_rows}
 use Rattle.rtp_media_browsers.specs.Laws.{AreBundlesOf, IsBundleOf, is_end_section}
 use Rattle.rtp_media_browsers.specs.Lines.{is_bundle_name}
 use Rattle.rtp_media_browsers.specs.Names.{is_among, mids_of}
@@ -74,34 +74,36 @@ identified_use : (o : Option Identity) (m : MediaLine) → (identified o m).disa
 identified_use None m = refl
 identified_use (Some i) m = refl
 
-in_order_name : (o : Option MediaLine) (m : MediaLine) → mid_of (with_order o m) ≡ mid_of m
-in_order_name None m = refl
-in_order_name (Some offered) m = refl
+offered_name : (o : Option MediaLine) (m : MediaLine) → mid_of (with_offered o m) ≡ mid_of m
+unfolding with_rows mid_in
+offered_name None m = refl
+offered_name (Some offered) m = refl
 
-in_order_use : (o : Option MediaLine) (m : MediaLine) → (with_order o m).disabled ≡ m.disabled
-in_order_use None m = refl
-in_order_use (Some offered) m = refl
+offered_use : (o : Option MediaLine) (m : MediaLine) → (with_offered o m).disabled ≡ m.disabled
+unfolding with_rows
+offered_use None m = refl
+offered_use (Some offered) m = refl
 
-ordered_name : (b : Bool) (olds : List MediaLine) (m : MediaLine) → mid_of (ordered b olds m) ≡ mid_of m
-ordered_name true olds m = in_order_name (section_named olds (mid_of m)) m
-ordered_name false olds m = refl
+listed_name : (b : Bool) (olds : List MediaLine) (m : MediaLine) → mid_of (listed_for b olds m) ≡ mid_of m
+listed_name true olds m = offered_name (section_named olds (mid_of m)) m
+listed_name false olds m = refl
 
-ordered_use : (b : Bool) (olds : List MediaLine) (m : MediaLine) → (ordered b olds m).disabled ≡ m.disabled
-ordered_use true olds m = in_order_use (section_named olds (mid_of m)) m
-ordered_use false olds m = refl
+listed_use : (b : Bool) (olds : List MediaLine) (m : MediaLine) → (listed_for b olds m).disabled ≡ m.disabled
+listed_use true olds m = offered_use (section_named olds (mid_of m)) m
+listed_use false olds m = refl
 
 use_with_transport : (t : Transport) (m : MediaLine) → (section_with_transport t m).disabled ≡ m.disabled
 unfolding section_with_transport
 use_with_transport t m = refl
 
 module _ (state : BrowserState) (t : Transport) where
-  told_name : (m : MediaLine) → mid_of (told_section state t m) ≡ mid_of m
-  told_name m = identified_name state.identity (ordered state.is_answering state.sections (section_with_transport t m))
-      ∙ ordered_name state.is_answering state.sections (section_with_transport t m) ∙ mid_same t m
+  pub told_name : (m : MediaLine) → mid_of (told_section state t m) ≡ mid_of m
+  told_name m = identified_name state.identity (listed_for state.is_answering state.sections (section_with_transport t m))
+      ∙ listed_name state.is_answering state.sections (section_with_transport t m) ∙ mid_same t m
 
   told_use : (m : MediaLine) → (told_section state t m).disabled ≡ m.disabled
-  told_use m = identified_use state.identity (ordered state.is_answering state.sections (section_with_transport t m))
-      ∙ ordered_use state.is_answering state.sections (section_with_transport t m) ∙ use_with_transport t m
+  told_use m = identified_use state.identity (listed_for state.is_answering state.sections (section_with_transport t m))
+      ∙ listed_use state.is_answering state.sections (section_with_transport t m) ∙ use_with_transport t m
 
   pub told_names : (ms : List MediaLine) → mids_of (map (told_section state t) ms) ≡ mids_of ms
   told_names [] = refl
@@ -239,7 +241,7 @@ not_refused : (b : Bool) (e : BrowserError) → refused_if (not b) e ≡ None �
 not_refused true e h = refl
 not_refused false e h = absurd (cc)
 
-planned : (state : BrowserState) (t : Transport) (sdp : Sdp) → browser_refusal state t sdp ≡ None
+pub planned : (state : BrowserState) (t : Transport) (sdp : Sdp) → browser_refusal state t sdp ≡ None
     → list_all (is_found (mids_of sdp.media_lines)) state.places ≡ true
 planned state t sdp h =
     let last = refused_if (not (has_planned state sdp.media_lines)) error.NotCorresponding in
@@ -253,15 +255,18 @@ planned state t sdp h =
     (both_of (begin_with (mids_of state.sections) sdp.media_lines)
     (list_all (is_found (mids_of sdp.media_lines)) state.places) found).1
 
+pub own_bundles : (names : List (List ℕ)) (mixed lite : Bool) (s : Session)
+    → AreBundlesOf names (session_with_transport names mixed lite s).attrs
+unfolding session_with_transport
+own_bundles names mixed lite s =
+    bundles_both names (map (bundled_as names) s.attrs ++ mixed_line mixed) (lite_line lite)
+    (bundles_both names (map (bundled_as names) s.attrs) (mixed_line mixed) (bundles_mapped names s.attrs)
+    (no_bundle_mixed names mixed)) (no_bundle_lite names lite)
+
 shown_bundles : (state : BrowserState) (t : Transport) (s : Session) (all : List MediaLine)
     → AreBundlesOf (names_in_use all) (shown state t s all).session.attrs
-unfolding shown session_with_transport
-shown_bundles state t s all =
-    bundles_both (names_in_use all)
-    (map (bundled_as (names_in_use all)) s.attrs ++ mixed_line state.allows_mixed) (lite_line t.is_lite)
-    (bundles_both (names_in_use all) (map (bundled_as (names_in_use all)) s.attrs)
-    (mixed_line state.allows_mixed) (bundles_mapped (names_in_use all) s.attrs)
-    (no_bundle_mixed (names_in_use all) state.allows_mixed)) (no_bundle_lite (names_in_use all) t.is_lite)
+unfolding shown
+shown_bundles state t s all = own_bundles (names_in_use all) state.allows_mixed t.is_lite s
 
 answer_of : (requests : List SectionRequest) (offer : Sdp) (state : BrowserState) (t : Transport) (sdp : Sdp)
     (all : List MediaLine)

@@ -26,10 +26,14 @@ use Rattle.sdp_formats_section_rows.specs.Attributes.{params_in, red_lines, rese
 use Rattle.sdp_formats_section_rows.specs.Maps.{map_of}
 use Rattle.sdp_formats_values.specs.MediaTypes.{is_media}
 use Rattle.sdp_formats_values.specs.declared.param.FormatParam.{FormatParam}
-use Rattle.rtp_media_browsers.specs.Laws.{IsBundleOf, has_no_transport, is_end_section, names_only}
-use Rattle.rtp_media_browsers.specs.Lines.{is_session_transport, is_transport}
+use Rattle.rtp_media_browsers.specs.Laws.{AreBundlesOf, IsBundleOf, has_no_transport, is_end_section, names_only}
+use Rattle.rtp_media_browsers.specs.Lines.{is_bundle, is_session_transport, is_transport, stays_in_session}
 use Rattle.rtp_media_browsers.specs.Names.{is_among, mids_of}
-use Rattle.rtp_media_browsers.specs.StandardLaws.{EndsWriteEndTexts}
+use Rattle.rtp_media_browsers.specs.StandardLaws.{EndsWriteEndTexts, is_own_line}
+use Rattle.rtp_media_browsers.proofs.Returning.{off}
+use Rattle.rtp_media_browsers.proofs.WithTransport.{both_of}
+use Rattle.sdp_formats_data.specs.declared.session.SessionAttribute.{SessionAttribute}
+use Rattle.sdp_formats_data.specs.declared.session.SessionAttribute.TheVariants.{Group}
 
 -- lines of which none is of the transport
 abbrev AreNone : List MediaAttribute → Type 0
@@ -138,13 +142,48 @@ among_all (n ∷ names) all within =
     (within n (ap (λ b. b || is_among names n) (nat_list_eq_equiv.refl n)))
     (among_all names all (λ m there. within m (or_right (is_name m n) (is_among names m) there)))
 
+-- lines of an end's own are in no bundle
+no_group : (names : List (List ℕ)) (a : SessionAttribute) → is_bundle a ≡ false → names_only names a ≡ true
+unfolding is_bundle names_only
+no_group names (Group typ mids) h = rw h refl
+no_group names _ h = refl
+
+no_bundle : (names : List (List ℕ)) (a : SessionAttribute) → is_bundle a ≡ false → IsBundleOf names a
+unfolding is_bundle IsBundleOf
+no_bundle names (Group typ mids) h = λ is. absurd (off_on (sym h ∙ is)) where
+  off_on : false ≡ true → ⊥
+  off_on e = cc
+no_bundle names _ h = tt
+
+record AreOwn (names : List (List ℕ)) (as' : List SessionAttribute) : Type 0 where
+  session : list_all stays_in_session as' ≡ true
+  groups : list_all (names_only names) as' ≡ true
+  bundles : AreBundlesOf names as'
+
+own_lines : (names : List (List ℕ)) (as' : List SessionAttribute) → list_all is_own_line as' ≡ true → AreOwn names as'
+own_lines names [] h = record { session = refl; groups = refl; bundles = tt }
+own_lines names (a ∷ as') h =
+    let here = both_of (is_own_line a) (list_all is_own_line as') h in
+    let one = both_of (stays_in_session a) (not (is_bundle a)) here.0 in
+    let rest = own_lines names as' here.1 in
+    record {
+      session = and_from (stays_in_session a) (list_all stays_in_session as') one.0 rest.session;
+      groups = and_from (names_only names a) (list_all (names_only names) as') (no_group names a (off (is_bundle a) one.1))
+          rest.groups;
+      bundles = (no_bundle names a (off (is_bundle a) one.1), rest.bundles);
+    }
+
 pub ends_write_end_texts : EndsWriteEndTexts
 unfolding is_session_transport names_only IsBundleOf
-ends_write_end_texts id all = record {
-  sections = are_end all;
-  session = refl;
-  groups = rw (names_are all)
-      (and_from (list_all (is_among (map (λ (s : Section). s.mid) all)) (map (λ (s : Section). s.mid) all)) true
-      (among_all (map (λ (s : Section). s.mid) all) (map (λ (s : Section). s.mid) all) (λ name there. there)) refl);
-  bundles = (λ is. sym (names_are all), tt);
-}
+ends_write_end_texts s all h =
+    let names = map (λ (x : Section). x.mid) all in
+    let rest = own_lines (mids_of (map line_of all)) s.attrs h in
+    record {
+      sections = are_end all;
+      session = rest.session;
+      groups = and_from (list_all (is_among (mids_of (map line_of all))) names)
+          (list_all (names_only (mids_of (map line_of all))) s.attrs)
+          (ap (λ (ns : List (List ℕ)). list_all (is_among ns) names) (names_are all)
+          ∙ among_all names names (λ name there. there)) rest.groups;
+      bundles = ((λ is. sym (names_are all)), rest.bundles);
+    }

@@ -1,5 +1,5 @@
--- Each look rejects sections that were accepted.
-use Rattle.std.proofs.Common.{◌≡◌, ◌∙◌, ◌<◌, ◌≤◌, ◌&&◌, ◌||◌, ℕ, suc, ap, refl, subst, sym, Bool, true, false, not}
+-- Each look asks for less of sections that were accepted.
+use Rattle.std.proofs.Common.{◌≡◌, ◌∙◌, ◌<◌, ◌≤◌, ◌+◌, ◌&&◌, ◌||◌, ℕ, suc, ap, refl, subst, sym, Bool, true, false, not}
 use Rattle.std.proofs.Common.{cond, arith}
 use Rattle.std.proofs.Common.{List, [], ◌∷◌, None, Some, drop, inl, inr}
 use Rattle.std.proofs.Math.Seq.{drop-cons}
@@ -13,8 +13,8 @@ use Rattle.sdp_formats_values.specs.MediaTypes.{is_media}
 use Rattle.rtp_media_browsers.specs.Calls.{RefusesOffer}
 use Rattle.rtp_media_browsers.specs.ForEnds.{bundled}
 use Rattle.rtp_media_browsers.specs.InCommon.{AreInCommon, HasRows, Lacks, RefusesInCommon, Rejects, RejectsInTurn}
-use Rattle.rtp_media_browsers.specs.InCommon.{has_named, left_of, without_named}
-use Rattle.rtp_media_browsers.specs.Places.{is_accepted, is_bundled_only, place_of, places_from, rejected}
+use Rattle.rtp_media_browsers.specs.InCommon.{has_named, left_of, less_of, without_named}
+use Rattle.rtp_media_browsers.specs.Places.{is_accepted, is_bundled_only, is_outside, place_of, places_from, rejected}
 use Rattle.rtp_media_browsers.specs.Refusals.{offer_refusal}
 use Rattle.rtp_media_browsers.specs.declared.error.BrowserError.{BrowserError}
 use Rattle.rtp_media_browsers.specs.declared.error.BrowserError.TheVariants.{Memory}
@@ -22,36 +22,51 @@ use Rattle.rtp_media_browsers.specs.declared.state.Place.{Place}
 use Rattle.rtp_media_browsers.specs.declared.state.Place.TheVariants.{Free, Kept, Taken}
 use Rattle.rtp_media_browsers.specs.declared.state.BrowserState.{BrowserState}
 use Rattle.rtp_media_browsers.specs.declared.request.SectionRequest.{SectionRequest}
+use Rattle.rtp_media_browsers.specs.declared.request.SectionRequest.TheVariants.{Accept, Receive, Reject}
+use Rattle.rtp_wire.specs.Direction.{receives}
 use Rattle.rtp_media_browsers.proofs.Named.{not_true}
 use Rattle.rtp_media_browsers.proofs.Refused.{want_of_memory}
 
--- how many are accepted
-abbrev pub accepted : List SectionRequest → ℕ
-accepted [] = 0
-accepted (w ∷ ws) = cond (is_accepted (Some w)) (suc (accepted ws)) (accepted ws)
+-- how much they ask for
+abbrev weight : SectionRequest → ℕ
+weight (Accept direction ssrcs repairs) = 2
+weight Receive = 1
+weight Reject = 0
 
-up_if : (b : Bool) (m n : ℕ) → m ≤ n → m ≤ cond b (suc n) n
-up_if true m n h = omega arith
-up_if false m n h = h
+abbrev pub asked : List SectionRequest → ℕ
+asked [] = 0
+asked (w ∷ ws) = weight w + asked ws
 
-both_up : (b : Bool) (m n : ℕ) → m ≤ n → cond b (suc m) m ≤ cond b (suc n) n
-both_up true m n h = omega arith
-both_up false m n h = h
+less_by : (b : Bool) → weight (cond b Receive Reject) ≤ 1
+less_by true = omega arith
+less_by false = omega arith
 
-less_up : (b : Bool) (m n : ℕ) → m < n → cond b (suc m) m < cond b (suc n) n
-less_up true m n h = omega arith
-less_up false m n h = h
+-- less is asked for of what is accepted
+less_asked : (w : SectionRequest) → is_accepted (Some w) ≡ true → weight (less_of w) < weight w
+less_asked (Accept direction ssrcs repairs) h =
+    let few = less_by (receives direction) in
+    omega (arith, few)
+less_asked Receive h = omega arith
+less_asked Reject h = not_true h
 
-one_not_more : (b : Bool) (w : SectionRequest) (m n : ℕ) → m ≤ n
-    → cond (is_accepted (Some (left_of b w))) (suc m) m ≤ cond (is_accepted (Some w)) (suc n) n
-one_not_more true w m n h = up_if (is_accepted (Some w)) m n h
-one_not_more false w m n h = both_up (is_accepted (Some w)) m n h
+no_more_asked : (w : SectionRequest) → weight (less_of w) ≤ weight w
+no_more_asked (Accept direction ssrcs repairs) =
+    let few = less_by (receives direction) in
+    omega (arith, few)
+no_more_asked Receive = omega arith
+no_more_asked Reject = omega arith
+
+one_not_more : (b : Bool) (w : SectionRequest) (m n : ℕ) → m ≤ n → weight (left_of b w) + m ≤ weight w + n
+one_not_more true w m n h =
+    let one = no_more_asked w in
+    omega (arith, one, h)
+one_not_more false w m n h = omega (arith, h)
 
 not_more : (names : List (List ℕ)) (ps : List Place) (ws : List SectionRequest)
-    → accepted (without_named names ps ws) ≤ accepted ws
+    → asked (without_named names ps ws) ≤ asked ws
 not_more names ps [] = omega arith
-not_more names [] (w ∷ ws) = one_not_more false w _ (accepted ws) (not_more names [] ws)
-not_more names (p ∷ ps) (w ∷ ws) = one_not_more (has_named names p) w _ (accepted ws) (not_more names ps ws)
+not_more names [] (w ∷ ws) = one_not_more false w _ (asked ws) (not_more names [] ws)
+not_more names (p ∷ ps) (w ∷ ws) = one_not_more (has_named names p) w _ (asked ws) (not_more names ps ws)
 
 is_kept : Place → Bool
 is_kept (Kept name) = true
@@ -81,37 +96,42 @@ off_named names (Taken r) h = refl
 off_named names (Free r) h = refl
 
 one_fewer : (b : Bool) (w : SectionRequest) (m n : ℕ) → (b ≡ true → is_accepted (Some w) ≡ true) → m ≤ n
-    → (b ≡ false → m < n)
-    → cond (is_accepted (Some (left_of b w))) (suc m) m < cond (is_accepted (Some w)) (suc n) n
-one_fewer true w m n on low less = subst (λ x. m < cond x (suc n) n) (sym (on refl)) (omega arith)
-one_fewer false w m n on low less = less_up (is_accepted (Some w)) m n (less refl)
+    → (b ≡ false → m < n) → weight (left_of b w) + m < weight w + n
+one_fewer true w m n on low less =
+    let one = less_asked w (on refl) in
+    omega (arith, one, low)
+one_fewer false w m n on low less =
+    let rest = less refl in
+    omega (arith, rest)
 
 fewer : (names : List (List ℕ)) (ps : List Place) (ws : List SectionRequest) → AreKept ps ws
-    → list_any (has_named names) ps ≡ true → accepted (without_named names ps ws) < accepted ws
+    → list_any (has_named names) ps ≡ true → asked (without_named names ps ws) < asked ws
 fewer names [] ws fit h = not_true h
 fewer names (p ∷ ps) [] fit h =
     fewer names ps [] fit.1 (second_true (has_named names p) (list_any (has_named names) ps)
     (off_named names p fit.0) h)
 fewer names (p ∷ ps) (w ∷ ws) fit h =
-    one_fewer (has_named names p) w (accepted (without_named names ps ws)) (accepted ws)
+    one_fewer (has_named names p) w (asked (without_named names ps ws)) (asked ws)
     (λ is. fit.0 (named_kept names p is)) (not_more names ps ws)
     (λ is. fewer names ps ws fit.1 (second_true (has_named names p) (list_any (has_named names) ps) is h))
 
 -- what is kept is accepted
-kept_by : (a b accepts : Bool) (r : MediaLine) (name : List ℕ)
-    → is_kept (cond (a || (b || not accepts)) (Taken r) (Kept name)) ≡ true → accepts ≡ true
+kept_by : (a b c accepts : Bool) (r : MediaLine) (name : List ℕ)
+    → is_kept (cond (a || (b || (c || not accepts))) (Taken r) (Kept name)) ≡ true → accepts ≡ true
 unfolding is_kept
-kept_by a b true r name h = refl
-kept_by true b false r name h = not_true h
-kept_by false true false r name h = not_true h
-kept_by false false false r name h = not_true h
+kept_by a b c true r name h = refl
+kept_by true b c false r name h = not_true h
+kept_by false true c false r name h = not_true h
+kept_by false false true false r name h = not_true h
+kept_by false false false false r name h = not_true h
 
-no_request : (a b : Bool) (r : MediaLine) (name : List ℕ) → is_kept (cond (a || (b || true)) (Taken r) (Kept name))
-    ≡ false
+no_request : (a b c : Bool) (r : MediaLine) (name : List ℕ)
+    → is_kept (cond (a || (b || (c || true))) (Taken r) (Kept name)) ≡ false
 unfolding is_kept
-no_request true b r name = refl
-no_request false true r name = refl
-no_request false false r name = refl
+no_request true b c r name = refl
+no_request false true c r name = refl
+no_request false false true r name = refl
+no_request false false false r name = refl
 
 module _ (bundle : List (List ℕ)) (requests : List SectionRequest) where
   are_kept : (n : ℕ) (ms : List MediaLine) → AreKept (places_from bundle requests n ms) (drop n requests)
@@ -121,7 +141,8 @@ module _ (bundle : List (List ℕ)) (requests : List SectionRequest) where
         subst (λ o. AreKept (place_of bundle o m ∷ places_from bundle requests (suc n) ms) (drop n requests)) (sym is)
         (subst (AreKept (place_of bundle (Some w) m ∷ places_from bundle requests (suc n) ms))
         (sym (drop-cons requests n w within ∙ ap (λ x. x ∷ drop (suc n) requests) got)) (
-          kept_by (not (is_media m.typ)) (m.disabled && not (is_bundled_only bundle m)) (is_accepted (Some w))
+          kept_by (not (is_media m.typ)) (m.disabled && not (is_bundled_only bundle m)) (is_outside bundle m)
+              (is_accepted (Some w))
               (rejected m) (mid_of m),
           are_kept (suc n) ms,
         ))
@@ -129,19 +150,20 @@ module _ (bundle : List (List ℕ)) (requests : List SectionRequest) where
         subst (λ o. AreKept (place_of bundle o m ∷ places_from bundle requests (suc n) ms) (drop n requests)) (sym none)
         (subst (AreKept (place_of bundle None m ∷ places_from bundle requests (suc n) ms)) (sym (drop_all n requests
         past)) (
-          no_request (not (is_media m.typ)) (m.disabled && not (is_bundled_only bundle m)) (rejected m) (mid_of m),
+          no_request (not (is_media m.typ)) (m.disabled && not (is_bundled_only bundle m)) (is_outside bundle m)
+              (rejected m) (mid_of m),
           subst (AreKept (places_from bundle requests (suc n) ms)) (drop_all (suc n) requests (omega arith))
               (are_kept (suc n) ms),
         ))
   ]
 
-pub fewer_accepted : (offer : List ℕ) (state : BrowserState) (rows : List Row) (before after : List SectionRequest)
-    → Rejects offer state rows before after → accepted after < accepted before
-fewer_accepted offer state rows before after r =
+pub fewer_asked : (offer : List ℕ) (state : BrowserState) (rows : List Row) (before after : List SectionRequest)
+    → Rejects offer state rows before after → asked after < asked before
+fewer_asked offer state rows before after r =
     let sdp = r.lacks.passes.sdp in
     let kept = subst (λ ps. AreKept ps before) (sym r.lacks.passes.planned.places)
     (are_kept (bundled sdp) before 0 sdp.media_lines) in
-    subst (λ ws. accepted ws < accepted before) (sym r.rejected)
+    subst (λ ws. asked ws < asked before) (sym r.rejected)
     (fewer r.names r.planned.places before kept r.some)
 
 -- what is left of requests after some rejections

@@ -20,7 +20,7 @@ use Rattle.rtp_media_browsers.specs.Refusals.{begin_with}
 use Rattle.rtp_media_browsers.specs.Wanted.{number_from, wanted, wanted_in, request_at}
 use Rattle.rtp_media_browsers.specs.declared.state.BrowserState.{BrowserState}
 use Rattle.rtp_media_browsers.specs.declared.request.SectionRequest.{SectionRequest}
-use Rattle.rtp_media_browsers.specs.declared.request.SectionRequest.TheVariants.{Accept, Reject}
+use Rattle.rtp_media_browsers.specs.declared.request.SectionRequest.TheVariants.{Accept, Receive, Reject}
 use Rattle.rtp_media_browsers.proofs.Named.{both, found_name, some_inside}
 
 -- lines of payload types name no source
@@ -111,11 +111,13 @@ goes_on olds ms = record {
 wanted_mid : (o : Option SectionRequest) (m : MediaLine) → (wanted o m).mid ≡ mid_of m
 wanted_mid None m = refl
 wanted_mid (Some (Accept direction ssrcs repairs)) m = refl
+wanted_mid (Some Receive) m = refl
 wanted_mid (Some Reject) m = refl
 
 wanted_kind : (o : Option SectionRequest) (m : MediaLine) → (wanted o m).kind ≡ kind_of m.typ
 wanted_kind None m = refl
 wanted_kind (Some (Accept direction ssrcs repairs)) m = refl
+wanted_kind (Some Receive) m = refl
 wanted_kind (Some Reject) m = refl
 
 module _ (state : BrowserState) (requests : List SectionRequest) where

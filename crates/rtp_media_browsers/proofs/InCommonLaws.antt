@@ -15,6 +15,7 @@ use Rattle.rtp_media_exchange.specs.Says.{SaysSections}
 use Rattle.rtp_media_exchange.specs.declared.errors.ExchangeError.{ExchangeError}
 use Rattle.rtp_media_exchange.specs.declared.errors.ExchangeError.TheVariants.{NoCommonRow, NotCorresponding}
 use Rattle.rtp_media_exchange.specs.declared.errors.ExchangeError.TheVariants.{NotWritable}
+use Rattle.rtp_wire.specs.Direction.{receives}
 use Rattle.rtp_media_sections.specs.Agreement.{may_follow}
 use Rattle.rtp_media_sections.specs.Lines.{remote_of, section_of}
 use Rattle.rtp_media_sections.specs.Sections.{Section, Wanted, corresponds}
@@ -27,24 +28,36 @@ use Rattle.sdp_formats_rounds.specs.declared.error.RoundError.{RoundError}
 use Rattle.sdp_formats_rows.specs.Rows.{Row}
 use Rattle.rtp_media_browsers.specs.ForEnds.{IsHanded, places_of, without}
 use Rattle.rtp_media_browsers.specs.InCommon.{AnswersInCommon, OnlyRejects, OthersStay, SaysToEnd}
-use Rattle.rtp_media_browsers.specs.InCommon.{has_named, left_of, names_none, names_without, without_named}
+use Rattle.rtp_media_browsers.specs.InCommon.{has_named, left_of, less_of, names_none, names_without, without_named}
 use Rattle.rtp_media_browsers.specs.Names.{is_among}
 use Rattle.rtp_media_browsers.specs.Places.{is_place_of}
+use Rattle.rtp_media_browsers.specs.Received.{asked_of}
 use Rattle.rtp_media_browsers.specs.Wanted.{number_from}
 use Rattle.rtp_media_browsers.specs.declared.state.Place.{Place}
 use Rattle.rtp_media_browsers.specs.declared.state.Place.TheVariants.{Free, Kept, Taken}
 use Rattle.rtp_media_browsers.specs.declared.request.SectionRequest.{SectionRequest}
-use Rattle.rtp_media_browsers.specs.declared.request.SectionRequest.TheVariants.{Reject}
+use Rattle.rtp_media_browsers.specs.declared.request.SectionRequest.TheVariants.{Accept, Receive, Reject}
 use Rattle.rtp_media_browsers.proofs.Named.{not_true}
 
--- each request stays, or rejects
-one_request : (b : Bool) (w : SectionRequest) → (Some (left_of b w) ≡ Some w) ⊎ (Some (left_of b w) ≡ Some Reject)
-one_request true w = inr refl
+-- each request stays, or only receives, or rejects
+abbrev Stays : Option SectionRequest → Option SectionRequest → Type 0
+Stays before after = (after ≡ before) ⊎ (after ≡ Some Receive) ⊎ (after ≡ Some Reject)
+
+less_by : (b : Bool) (w : SectionRequest) → Stays (Some w) (Some (cond b Receive Reject))
+less_by true w = inr (inl refl)
+less_by false w = inr (inr refl)
+
+less_stays : (w : SectionRequest) → Stays (Some w) (Some (less_of w))
+less_stays (Accept direction ssrcs repairs) = less_by (receives direction) (Accept direction ssrcs repairs)
+less_stays Receive = inr (inr refl)
+less_stays Reject = inr (inr refl)
+
+one_request : (b : Bool) (w : SectionRequest) → Stays (Some w) (Some (left_of b w))
+one_request true w = less_stays w
 one_request false w = inl refl
 
 each_request : (names : List (List ℕ)) (ps : List Place) (ws : List SectionRequest) (n : ℕ)
-    → (slice_get (without_named names ps ws) n ≡ slice_get ws n)
-    ⊎ (slice_get (without_named names ps ws) n ≡ Some Reject)
+    → Stays (slice_get ws n) (slice_get (without_named names ps ws) n)
 each_request names ps [] n = inl refl
 each_request names [] (w ∷ ws) zero = inl refl
 each_request names [] (w ∷ ws) (suc n) = each_request names [] ws n
@@ -57,10 +70,10 @@ same_length names ps [] = refl
 same_length names [] (w ∷ ws) = ap suc (same_length names [] ws)
 same_length names (p ∷ ps) (w ∷ ws) = ap suc (same_length names ps ws)
 
-both_stay : (x y z : Option SectionRequest) → (y ≡ x) ⊎ (y ≡ Some Reject) → (z ≡ y) ⊎ (z ≡ Some Reject)
-    → (z ≡ x) ⊎ (z ≡ Some Reject)
+both_stay : (x y z : Option SectionRequest) → Stays x y → Stays y z → Stays x z
 both_stay x y z (inl a) (inl b) = inl (b ∙ a)
-both_stay x y z (inr a) (inl b) = inr (b ∙ a)
+both_stay x y z (inr (inl a)) (inl b) = inr (inl (b ∙ a))
+both_stay x y z (inr (inr a)) (inl b) = inr (inr (b ∙ a))
 both_stay x y z h (inr b) = inr b
 
 pub only_rejects : OnlyRejects
@@ -213,9 +226,9 @@ answers_in_common offer state planned requests handed x wanted mid has passes (i
     let first = has.lacks.passes in
     let same = (first.says.1 passes.sdp [] passes.says.0).0 in
     let places = passes.planned.places ∙ ap (places_of requests) same ∙ sym first.planned.places in
-    let text = one_handed offer first.sdp (without state.sections (places_of requests first.sdp) first.sdp) handed
+    let text = one_handed offer first.sdp (without state.sections (places_of requests first.sdp) (asked_of requests first.sdp)) handed
     has.lacks.handed
-    (subst (λ (s : Sdp). IsHanded offer s (without state.sections (places_of requests s) s) handed) same
+    (subst (λ (s : Sdp). IsHanded offer s (without state.sections (places_of requests s) (asked_of requests s)) handed) same
     passes.handed) first.handed in
     let sections = one_reading has.lacks.handed has.lacks.sections refused.0 has.lacks.says
     (subst (λ t. SaysSections t refused.0) text refused.1) in

@@ -1,4 +1,5 @@
 pub mod Asked
+pub mod AsAsked
 pub mod WithTransport
 pub mod GoingOn
 pub mod FewerRequests
@@ -6,6 +7,7 @@ pub mod InCommonLaws
 pub mod InPlace
 pub mod Named
 pub mod Placed
+pub mod Inside
 pub mod Prints
 pub mod Read
 pub mod Refused
@@ -15,6 +17,9 @@ pub mod SharedRows
 pub mod Steps
 pub mod Whole
 pub mod RoleLaws
-pub mod OrderLaw
+pub mod ListedRows
+pub mod TypeLines
+pub mod ListingLaw
+pub mod KnownLaw
 pub mod EndTextLaw
 pub mod EachAnswered

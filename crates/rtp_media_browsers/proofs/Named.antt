@@ -16,7 +16,7 @@ both a b x y = rw (x, y) refl
 pub some_inside : {A : Type 0} (x y : A) → Some x ≡ Some y → x ≡ y
 some_inside x y h = cc
 
-none_is : {A B : Type 0} (x : A) → None ≡ Some x → B
+pub none_is : {A B : Type 0} (x : A) → None ≡ Some x → B
 none_is x h = cc
 
 found_step : (x : MediaLine) (xs : List MediaLine) (mid : List ℕ) (m : MediaLine)

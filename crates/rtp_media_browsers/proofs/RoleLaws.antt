@@ -1,16 +1,19 @@
 -- Where values are told, and who opens the connection.
-use Rattle.std.proofs.Common.{◌≡◌, ◌∙◌, ap, refl, ℕ, Bool, true, false, List, [], ◌∷◌}
+use Rattle.std.proofs.Common.{◌≡◌, ◌∙◌, ap, refl, subst, ℕ, Bool, true, false, List, [], ◌∷◌}
 use Rattle.std.proofs.Common.{inl, inr}
 use Rattle.std.specs.Prelude.{◌≢◌, ◌⊎◌, Option, None, Some}
 use Rattle.std.specs.Option.{option_map, option_or}
 use mathlib.Core.Bool.{false≢true}
 use Rattle.sdp_formats_data.specs.ListedCandidates.{section_candidates, session_candidates}
 use Rattle.sdp_formats_data.specs.Lookups.{first_of, setup_in}
+use Rattle.sdp_formats_data.specs.Preference.{IsPreferred}
 use Rattle.sdp_formats_data.specs.Sections as sections
 use Rattle.sdp_formats_data.specs.Sessions as sessions
+use Rattle.sdp_formats_data.specs.Transport.{section_prints, session_prints}
 use Rattle.sdp_formats_data.specs.declared.media.MediaLine.{MediaLine}
 use Rattle.sdp_formats_data.specs.declared.session.Session.{Session}
 use Rattle.sdp_formats_values.specs.declared.candidate.Candidate.{Candidate}
+use Rattle.sdp_formats_values.specs.declared.fingerprint.Fingerprint.{Fingerprint}
 use Rattle.sdp_formats_values.specs.declared.setup.Setup.{Setup}
 use Rattle.sdp_formats_values.specs.declared.setup.Setup.TheVariants.{ActPass, Active, Passive}
 use Rattle.rtp_media_browsers.specs.Fit.{may_say}
@@ -46,6 +49,12 @@ tells_by_levels s m remote tells = record {
   candidates = record {
     own = λ some. tells.candidates ∙ else_own (section_candidates m) (session_candidates s) some;
     shared = λ none. tells.candidates ∙ ap (λ (xs : List Candidate). else_of xs (session_candidates s)) none;
+  };
+  fingerprint = record {
+    own = λ some. subst (λ (xs : List Fingerprint). IsPreferred xs remote.fingerprint)
+        (else_own (section_prints m) (session_prints s) some) tells.fingerprint;
+    shared = λ none. subst (λ (xs : List Fingerprint). IsPreferred xs remote.fingerprint)
+        (ap (λ (xs : List Fingerprint). else_of xs (session_prints s)) none) tells.fingerprint;
   };
 }
 

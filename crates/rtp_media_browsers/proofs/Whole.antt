@@ -1,5 +1,5 @@
 -- Whole texts that come back.
-use Rattle.std.proofs.Common.{◌≡◌, ◌∙◌, ap, refl, subst, ℕ, true, Bool, List, [], ◌∷◌, map, length}
+use Rattle.std.proofs.Common.{◌≡◌, ◌∙◌, ap, refl, subst, ℕ, true, Bool, List, [], ◌∷◌, map, length, not, slice_get}
 use Rattle.std.proofs.Common.{false, filter}
 use Rattle.std.proofs.Common.{arith}
 use Rattle.std.specs.List.{list_all}
@@ -11,13 +11,18 @@ use Rattle.rtp_media_browsers.specs.ForBrowsers.{section_with_transport, session
 use Rattle.rtp_media_browsers.specs.ForBrowsers.{shown}
 use Rattle.rtp_media_browsers.specs.ForBrowsers.{told_section}
 use Rattle.rtp_media_browsers.specs.ForEnds.{bundled, end_section, places_of, with_sections, without}
-use Rattle.rtp_media_browsers.specs.Identities.{ordered}
+use Rattle.rtp_media_browsers.specs.Listing.{listed_for}
 use Rattle.rtp_media_browsers.specs.Laws.{AllAccepted, ComesBack, IsEndText, NothingChanges, first, is_end_section}
 use Rattle.rtp_media_browsers.specs.Names.{mids_of}
+use Rattle.rtp_media_browsers.specs.Places.{is_accepted}
+use Rattle.rtp_media_browsers.specs.Received.{asked_of, is_received}
 use Rattle.rtp_media_browsers.specs.declared.state.BrowserState.{BrowserState}
 use Rattle.rtp_media_browsers.specs.declared.transport.Transport.{Transport}
 use Rattle.rtp_media_browsers.specs.declared.request.SectionRequest.{SectionRequest}
+use Rattle.rtp_media_browsers.proofs.AsAsked.{accepted_whole}
 use Rattle.rtp_media_browsers.proofs.WithTransport.{both_of}
+use Rattle.rtp_media_browsers.proofs.EachAnswered.{own_bundles}
+use Rattle.rtp_media_browsers.proofs.Inside.{are_inside}
 use Rattle.rtp_media_browsers.proofs.Placed.{Accepts, AreUsed, all_left}
 use Rattle.rtp_media_browsers.proofs.Returning.{in_use, media, mids_same, sections_back, sections_same}
 use Rattle.rtp_media_browsers.proofs.SessionBack.{session_back, session_same}
@@ -37,7 +42,8 @@ used_with_transport t (m ∷ ms) h =
     ((media m here.0, in_use m here.0), used_with_transport t ms here.1)
 
 accepts : (requests : List SectionRequest) (count : ℕ) → AllAccepted requests count → Accepts requests 0 count
-accepts requests count all k low high = all k (omega arith)
+accepts requests count all k low high =
+    (both_of (is_accepted (slice_get requests k)) (not (is_received (slice_get requests k))) (all k (omega arith))).0
 
 -- to an end without sections each one is new
 all_new : (ms : List MediaLine) → filter (is_new []) ms ≡ ms
@@ -56,9 +62,11 @@ pub nothing_changes : NothingChanges
 unfolding with_sections
 nothing_changes requests sdp is all =
     let left = all_left (bundled sdp) requests 0 sdp.media_lines (used sdp.media_lines is.sections)
+    (are_inside (mids_of sdp.media_lines) sdp.session.attrs sdp.media_lines refl is.bundles)
     (accepts requests (length sdp.media_lines) all) in
     let same = ap (map end_section) left ∙ sections_same sdp.media_lines is.sections in
-    ap (λ (ms : List MediaLine). with_sections sdp.session (filter (is_new []) ms)) same
+    ap (λ (s : Sdp). without [] (places_of requests sdp) s) (accepted_whole requests sdp all)
+    ∙ ap (λ (ms : List MediaLine). with_sections sdp.session (filter (is_new []) ms)) same
     ∙ ap (with_sections sdp.session) (all_new sdp.media_lines)
     ∙ (λ i. record {
       session = session_same (mids_of sdp.media_lines) sdp.session is.session is.groups i;
@@ -72,13 +80,13 @@ module _ (state : BrowserState) (t : Transport) (sdp : Sdp) (is : IsEndText sdp)
   abbrev own : Session
   own = session_with_transport (mids_of sdp.media_lines) state.allows_mixed t.is_lite sdp.session
 
-  ordered_same : (b : Bool) (m : MediaLine) → ordered b [] m ≡ m
-  ordered_same true m = refl
-  ordered_same false m = refl
+  listed_same : (b : Bool) (m : MediaLine) → listed_for b [] m ≡ m
+  listed_same true m = refl
+  listed_same false m = refl
 
   told_same : (ms : List MediaLine) → map (told_section (first state) t) ms ≡ map (section_with_transport t) ms
   told_same [] = refl
-  told_same (m ∷ ms) = λ i. ordered_same state.is_answering (section_with_transport t m) i ∷ told_same ms i
+  told_same (m ∷ ms) = λ i. listed_same state.is_answering (section_with_transport t m) i ∷ told_same ms i
 
   -- what a browser gets of a first text
   shown_as : for_browser (first state) t sdp ≡ record { session = own; media_lines = with_transport }
@@ -96,14 +104,17 @@ module _ (state : BrowserState) (t : Transport) (sdp : Sdp) (is : IsEndText sdp)
 
   back : (requests : List SectionRequest) → AllAccepted requests (length with_transport)
       → without [] (places_of requests (record { session = own; media_lines = with_transport }))
-      (record { session = own; media_lines = with_transport }) ≡ sdp
+      (asked_of requests (record { session = own; media_lines = with_transport })) ≡ sdp
   unfolding with_sections
   back requests all =
       let b : Sdp = record { session = own; media_lines = with_transport } in
       let left = all_left (bundled b) requests 0 with_transport (used_with_transport t sdp.media_lines is.sections)
+      (are_inside (mids_of sdp.media_lines) own.attrs with_transport (mids_same t sdp.media_lines)
+      (own_bundles (mids_of sdp.media_lines) state.allows_mixed t.is_lite sdp.session))
       (accepts requests (length with_transport) all) in
       let same = ap (map end_section) left ∙ sections_back t sdp.media_lines is.sections in
-      ap (λ (ms : List MediaLine). with_sections own (filter (is_new []) ms)) same
+      ap (λ (s : Sdp). without [] (places_of requests b) s) (accepted_whole requests b all)
+      ∙ ap (λ (ms : List MediaLine). with_sections own (filter (is_new []) ms)) same
       ∙ ap (with_sections own) (all_new sdp.media_lines)
       ∙ (λ i. record {
         session = session_back (mids_of sdp.media_lines) sdp.session is.session is.groups is.bundles
@@ -114,5 +125,5 @@ module _ (state : BrowserState) (t : Transport) (sdp : Sdp) (is : IsEndText sdp)
 pub comes_back : ComesBack
 comes_back state t requests sdp is all =
     let same = shown_as state t sdp is in
-    ap (λ (b : Sdp). without [] (places_of requests b) b) same
+    ap (λ (b : Sdp). without [] (places_of requests b) (asked_of requests b)) same
     ∙ back state t sdp is requests (subst (λ (b : Sdp). AllAccepted requests (length b.media_lines)) same all)

@@ -16,7 +16,7 @@ use Rattle.sdp_formats_data.specs.declared.media.MediaLine.{MediaLine}
 use Rattle.sdp_formats_data.specs.declared.session.Sdp.{Sdp}
 use Rattle.sdp_formats_values.specs.MediaTypes.{is_media}
 use Rattle.rtp_media_browsers.specs.ForEnds.{bundled}
-use Rattle.rtp_media_browsers.specs.Places.{is_bundled_only}
+use Rattle.rtp_media_browsers.specs.Places.{is_bundled_only, is_outside}
 use Rattle.rtp_media_browsers.specs.Reading.{IsUnread, SaysWhole}
 use Rattle.rtp_media_browsers.specs.declared.asking.NamedRequest.{NamedRequest}
 use Rattle.rtp_media_browsers.specs.declared.asking.Target.{Target}
@@ -24,11 +24,11 @@ use Rattle.rtp_media_browsers.specs.declared.asking.Target.TheVariants as target
 use Rattle.rtp_media_browsers.specs.declared.asking.RequestError.{RequestError}
 use Rattle.rtp_media_browsers.specs.declared.asking.RequestError.TheVariants as error
 use Rattle.rtp_media_browsers.specs.declared.request.SectionRequest.{SectionRequest}
-use Rattle.rtp_media_browsers.specs.declared.request.SectionRequest.TheVariants.{Accept, Reject}
+use Rattle.rtp_media_browsers.specs.declared.request.SectionRequest.TheVariants.{Accept, Receive, Reject}
 
--- Audio or video that is in use (RFC 9143 6).
+-- Audio or video that is in use (RFC 9143 6), and has the transport that an end has.
 abbrev pub is_open : List (List ℕ) → MediaLine → Bool
-is_open bundle m = is_media m.typ && (not m.disabled || is_bundled_only bundle m)
+is_open bundle m = is_media m.typ && ((not m.disabled || is_bundled_only bundle m) && not (is_outside bundle m))
 
 abbrev pub names_mid : List ℕ → Target → Bool
 names_mid mid (target.Mid name) = is_name name mid
@@ -96,6 +96,7 @@ maps_rtx _ = false
 
 abbrev pub has_repairs : SectionRequest → Bool
 has_repairs (Accept direction ssrcs repairs) = not (length repairs.items == 0)
+has_repairs Receive = false
 has_repairs Reject = false
 
 -- A request has repairs, and its section has no payload type for them.

@@ -8,6 +8,7 @@ use Rattle.rtp_media_browsers.specs.ForEnds.{without}
 use Rattle.rtp_media_browsers.specs.Identities.{said_of, told_text}
 use Rattle.rtp_media_browsers.specs.Places.{freed}
 use Rattle.rtp_media_browsers.specs.Reading.{IsUnread, SaysWhole}
+use Rattle.rtp_media_browsers.specs.Received.{asked_of}
 use Rattle.rtp_media_browsers.specs.Refusals.{answer_refusal, browser_refusal, offer_refusal}
 use Rattle.rtp_media_browsers.specs.declared.error.BrowserError.{BrowserError}
 use Rattle.rtp_media_browsers.specs.declared.error.BrowserError.TheVariants.{NotWritable}
@@ -34,7 +35,7 @@ pub record OfferPasses (text : List ℕ) (requests : List SectionRequest) (befor
   pub says : SaysWhole text sdp
   pub passes : offer_refusal text before requests sdp ≡ None
   pub planned : IsPlanned before requests sdp after
-  pub handed : IsHanded text sdp (without before.sections (places_of requests sdp) sdp) out
+  pub handed : IsHanded text sdp (without before.sections (places_of requests sdp) (asked_of requests sdp)) out
 
 -- The same of an answer.
 pub record AnswerPasses (text : List ℕ) (before after : BrowserState) (out : List ℕ) : Type 0 where

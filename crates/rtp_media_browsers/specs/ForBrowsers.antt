@@ -9,8 +9,9 @@ use Rattle.sdp_formats_data.specs.declared.session.Sdp.{Sdp}
 use Rattle.sdp_formats_data.specs.declared.session.Session.{Session}
 use Rattle.sdp_formats_data.specs.declared.session.SessionAttribute.{SessionAttribute}
 use Rattle.sdp_formats_data.specs.declared.session.SessionAttribute.TheVariants as session
-use Rattle.rtp_media_browsers.specs.Identities.{identified, ordered}
+use Rattle.rtp_media_browsers.specs.Identities.{identified}
 use Rattle.rtp_media_browsers.specs.Lines.{is_bundle_name, mixed_words}
+use Rattle.rtp_media_browsers.specs.Listing.{listed_for}
 use Rattle.rtp_media_browsers.specs.Names.{mids_of}
 use Rattle.rtp_media_browsers.specs.Places.{placed}
 use Rattle.rtp_media_browsers.specs.declared.state.BrowserState.{BrowserState}
@@ -67,7 +68,7 @@ shown state t s ms = record {
 -- An end's text with the transport's lines added to its sections, and the removed sections put back in their places.
 -- A section of an end as its browser is told of it.
 abbrev pub told_section : BrowserState → Transport → MediaLine → MediaLine
-told_section state t m = identified state.identity (ordered state.is_answering state.sections
+told_section state t m = identified state.identity (listed_for state.is_answering state.sections
     (section_with_transport t m))
 
 abbrev pub for_browser : BrowserState → Transport → Sdp → Sdp

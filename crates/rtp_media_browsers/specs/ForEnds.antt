@@ -14,6 +14,7 @@ use Rattle.rtp_media_browsers.specs.Following.{following}
 use Rattle.rtp_media_browsers.specs.Lines.{allows_mixed, bundle_in, is_bundle_name, stays, stays_in_session}
 use Rattle.rtp_media_browsers.specs.Names.{is_among, mids_of}
 use Rattle.rtp_media_browsers.specs.Places.{answered_places, left, places_from}
+use Rattle.rtp_media_browsers.specs.Received.{asked_of}
 use Rattle.rtp_media_browsers.specs.Remotes.{TellsFirst}
 use Rattle.rtp_media_browsers.specs.declared.state.Place.{Place}
 use Rattle.rtp_media_browsers.specs.declared.state.BrowserState.{BrowserState}
@@ -54,7 +55,7 @@ places_of requests sdp = places_from (bundled sdp) requests 0 sdp.media_lines
 pub record IsPlanned (before : BrowserState) (requests : List SectionRequest) (sdp : Sdp)
     (after : BrowserState) : Type 0 where
   pub places : after.places ≡ places_of requests sdp
-  pub sections : after.sections ≡ (without before.sections (places_of requests sdp) sdp).media_lines
+  pub sections : after.sections ≡ (without before.sections (places_of requests sdp) (asked_of requests sdp)).media_lines
   pub mixed : after.allows_mixed ≡ list_any allows_mixed sdp.session.attrs
   pub remote : TellsFirst sdp.session (left (places_of requests sdp) sdp.media_lines) after.remote
   pub setup : after.setup ≡ before.setup

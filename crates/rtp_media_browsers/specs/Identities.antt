@@ -1,9 +1,8 @@
 -- What a browser is told of an end, beside what the end's own texts say (RFC 8866 5.2, RFC 7022, RFC 8830 2).
-use Rattle.std.specs.Prelude.{ℕ, ◌+◌, ◌-◌, ◌^◌, ◌==◌, Bool, not, List, [], ◌++◌, codes, filter, map, nat_eq}
+use Rattle.std.specs.Prelude.{ℕ, ◌+◌, ◌-◌, ◌^◌, ◌==◌, Bool, List, [], ◌++◌, codes, filter, map, nat_eq}
 use Rattle.std.specs.Prelude.{Option, None, Some, if◌then◌else◌}
 use Rattle.std.specs.Cmp.Lexicographic.{pointwise}
 use Rattle.std.specs.Fmt.{decimal}
-use Rattle.std.specs.List.{list_any}
 use Rattle.std.specs.Option.{unwrap_or}
 use Rattle.rtp_media_sections.specs.Lines.{mid_of}
 use Rattle.rtp_wire.specs.Direction.{sends}
@@ -15,7 +14,6 @@ use Rattle.sdp_formats_data.specs.declared.media.MediaAttribute.TheVariants as l
 use Rattle.sdp_formats_data.specs.declared.media.MediaLine.{MediaLine}
 use Rattle.sdp_formats_data.specs.declared.session.Sdp.{Sdp}
 use Rattle.sdp_formats_grammar.specs.Split.{halves}
-use Rattle.rtp_media_browsers.specs.Following.{section_named}
 use Rattle.rtp_media_browsers.specs.declared.identity.Identity.{Identity}
 use Rattle.rtp_media_browsers.specs.declared.identity.Said.{Said}
 use Rattle.rtp_media_browsers.specs.declared.identity.Track.{Track}
@@ -48,21 +46,6 @@ identified None m = m
 identified (Some i) m = record m {
   attrs = map (named_line i.cname) m.attrs ++ tracks_sent (sends (direction_of m.attrs)) i.tracks (mid_of m);
 }
-
-abbrev pub is_listed : List ℕ → ℕ → Bool
-is_listed types pt = list_any (λ t. t == pt) types
-
--- Payload types in the order in which others list them, and after these the ones that aren't there (RFC 3264 6.1).
-abbrev pub in_order : List ℕ → List ℕ → List ℕ
-in_order others types = filter (is_listed types) others ++ filter (λ pt. not (is_listed others pt)) types
-
--- An answer's section with its payload types in the offer's order.
-abbrev pub with_order : Option MediaLine → MediaLine → MediaLine
-with_order None m = m
-with_order (Some offered) m = record m { pts = in_order offered.pts m.pts }
-
-abbrev pub ordered : Bool → List MediaLine → MediaLine → MediaLine
-ordered is_answer olds m = if is_answer then with_order (section_named olds (mid_of m)) m else m
 
 -- The user name of `o=`; without an identity that of an end's own texts.
 abbrev pub user_of : Option Identity → List ℕ

@@ -1,4 +1,5 @@
 -- Sections of an offer that have no row in common with the end: the answer rejects them, and no others (RFC 3264 6).
+-- Those whose codecs the end has under types of other sections it answers to receive in them.
 use Rattle.std.specs.Prelude.{◌≡◌, ◌⊎◌, ℕ, suc, zero, Bool, true, false, List, [], ◌∷◌, filter, length, map, slice_get}
 use Rattle.std.specs.Prelude.{None, Some, is_some, Result, Ok, Err, if◌then◌else◌}
 use Rattle.std.specs.List.{list_any}
@@ -9,6 +10,7 @@ use Rattle.rtp_media_exchange.specs.declared.errors.ExchangeError.TheVariants as
 use Rattle.rtp_media_sections.specs.Answered.{locked_row}
 use Rattle.rtp_media_sections.specs.Lines.{remote_of}
 use Rattle.rtp_media_sections.specs.Sections.{Section, Wanted}
+use Rattle.rtp_wire.specs.Direction.{receives}
 use Rattle.sdp_formats_reader.specs.ReaderErrors.{SaysNothing}
 use Rattle.sdp_formats_rounds.specs.Best.{best_row}
 use Rattle.sdp_formats_rounds.specs.Laws.{rounds}
@@ -23,7 +25,7 @@ use Rattle.rtp_media_browsers.specs.declared.state.Place.{Place}
 use Rattle.rtp_media_browsers.specs.declared.state.Place.TheVariants.{Kept}
 use Rattle.rtp_media_browsers.specs.declared.state.BrowserState.{BrowserState}
 use Rattle.rtp_media_browsers.specs.declared.request.SectionRequest.{SectionRequest}
-use Rattle.rtp_media_browsers.specs.declared.request.SectionRequest.TheVariants.{Reject}
+use Rattle.rtp_media_browsers.specs.declared.request.SectionRequest.TheVariants.{Accept, Receive, Reject}
 
 -- Whether the answer lists a row for an offered one.
 unfoldable pub is_answered : List Row → Bool → Row → Bool
@@ -66,16 +68,22 @@ abbrev pub after_first : List Place → List Place
 after_first [] = []
 after_first (p ∷ ps) = ps
 
--- The request for a place, which is rejected if it is that of one of these names.
+-- The request for a section without a row in common: only to receive in it, if the end would receive, and then to reject
+-- it.
+abbrev pub less_of : SectionRequest → SectionRequest
+less_of (Accept direction ssrcs repairs) = if receives direction then Receive else Reject
+less_of _ = Reject
+
+-- The request for a place, which is less if it is that of one of these names.
 abbrev pub left_of : Bool → SectionRequest → SectionRequest
-left_of is_rejected request = if is_rejected then Reject else request
+left_of is_named request = if is_named then less_of request else request
 
 -- The requests, place by place.
 abbrev pub without_named : List (List ℕ) → List Place → List SectionRequest → List SectionRequest
 without_named names ps [] = []
 without_named names ps (w ∷ ws) = left_of (begins_with_named names ps) w ∷ without_named names (after_first ps) ws
 
--- Sections without a row in common have a place, and their requests are rejected.
+-- Sections without a row in common have a place, and their requests are less.
 pub record Rejects (offer : List ℕ) (state : BrowserState) (rows : List Row)
     (before after : List SectionRequest) : Type 0 where
   pub planned : BrowserState
@@ -84,7 +92,7 @@ pub record Rejects (offer : List ℕ) (state : BrowserState) (rows : List Row)
   pub some : list_any (has_named names) planned.places ≡ true
   pub rejected : after ≡ without_named names planned.places before
 
--- The same so many times, since the rounds then go without what was rejected.
+-- The same so many times, since the rounds then go without what was rejected, and without dictated types.
 abbrev pub RejectsInTurn : List ℕ → BrowserState → List Row → ℕ → List SectionRequest → List SectionRequest → Type 0
 RejectsInTurn offer state rows zero before after = before ≡ after
 RejectsInTurn offer state rows (suc n) before after =
@@ -99,7 +107,7 @@ pub record HasRows (offer : List ℕ) (state : BrowserState) (rows : List Row)
   pub lacks : Lacks offer rows requests state planned names
   pub none : list_any (has_named names) planned.places ≡ false
 
--- The requests, with those rejected whose sections have no row in common.
+-- The requests, with those less whose sections have no row in common.
 pub record AreInCommon (offer : List ℕ) (state : BrowserState) (rows : List Row)
     (before after : List SectionRequest) : Type 0 where
   pub times : ℕ
@@ -116,10 +124,11 @@ pub record RefusesInCommon (offer : List ℕ) (state : BrowserState) (rows : Lis
   pub rejects : RejectsInTurn offer state rows times requests left
   pub refused : RefusesOffer offer state left e
 
--- All other requests stay, in their places.
+-- All other requests stay, in their places; those that don't only receive, or reject.
 pub record OthersStay (before after : List SectionRequest) : Type 0 where
   pub length : length after ≡ length before
-  pub requests : (n : ℕ) → (slice_get after n ≡ slice_get before n) ⊎ (slice_get after n ≡ Some Reject)
+  pub requests : (n : ℕ) → (slice_get after n ≡ slice_get before n)
+      ⊎ (slice_get after n ≡ Some Receive) ⊎ (slice_get after n ≡ Some Reject)
 
 abbrev pub OnlyRejects : Type 0
 OnlyRejects = (offer : List ℕ) (state : BrowserState) (rows : List Row) (times : ℕ) (before after : List SectionRequest)

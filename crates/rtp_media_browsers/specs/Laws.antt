@@ -1,6 +1,6 @@
 -- What holds of texts that go to a browser and come back.
 use Rattle.std.specs.Prelude.{◌≡◌, ◌<◌, ◌+◌, ℕ, Bool, true, false, not, ◌&&◌, ◌||◌, IsTrue, List, [], ◌∷◌, filter}
-use Rattle.std.specs.Prelude.{suc, take, drop, length, map, slice_get, None, Some}
+use Rattle.std.specs.Prelude.{suc, take, drop, length, map, slice_get, Option, None, Some}
 use Rattle.std.specs.List.{flat_map, list_all}
 use Rattle.std.specs.Option.{option_or}
 use Rattle.rtp_media_sections.specs.Lines.{kind_of, mid_of, sources_in}
@@ -20,6 +20,7 @@ use Rattle.rtp_media_browsers.specs.ForEnds.{end_section, places_of, without}
 use Rattle.rtp_media_browsers.specs.Lines.{is_bundle_name, is_transport, stays_in_session}
 use Rattle.rtp_media_browsers.specs.Names.{is_among, mids_of}
 use Rattle.rtp_media_browsers.specs.Places.{is_accepted, placed, rejected}
+use Rattle.rtp_media_browsers.specs.Received.{asked_of, is_received}
 use Rattle.rtp_media_browsers.specs.Refusals.{begin_with, is_found}
 use Rattle.rtp_media_browsers.specs.Wanted.{wanted_of}
 use Rattle.rtp_media_browsers.specs.declared.state.Place.{Place}
@@ -56,9 +57,12 @@ pub record IsEndText (sdp : Sdp) : Type 0 where
   pub groups : IsTrue (list_all (names_only (mids_of sdp.media_lines)) sdp.session.attrs)
   pub bundles : AreBundlesOf (mids_of sdp.media_lines) sdp.session.attrs
 
--- Each of the first `count` sections is accepted.
+-- Each of the first `count` sections is accepted, and not only for receiving.
+abbrev pub is_whole : Option SectionRequest → Bool
+is_whole request = is_accepted request && not (is_received request)
+
 abbrev pub AllAccepted : List SectionRequest → ℕ → Type 0
-AllAccepted requests count = (n : ℕ) → n < count → IsTrue (is_accepted (slice_get requests n))
+AllAccepted requests count = (n : ℕ) → n < count → IsTrue (is_whole (slice_get requests n))
 
 -- Every removed section is rejected.
 abbrev pub AreRejections : List Place → Type 0
@@ -71,7 +75,7 @@ AreRejections (Free r ∷ ps) = ((m : MediaLine) × (r ≡ rejected m)) × AreRe
 abbrev pub NothingChanges : Type 0
 NothingChanges = (requests : List SectionRequest) (sdp : Sdp) → IsEndText sdp
     → AllAccepted requests (length sdp.media_lines)
-    → without [] (places_of requests sdp) sdp ≡ sdp
+    → without [] (places_of requests sdp) (asked_of requests sdp) ≡ sdp
 
 -- A state of an end that has no section yet, and of which a browser is told nothing else.
 abbrev pub first : BrowserState → BrowserState
@@ -81,7 +85,8 @@ first state = record state { places = []; sections = []; identity = None }
 abbrev pub ComesBack : Type 0
 ComesBack = (state : BrowserState) (t : Transport) (requests : List SectionRequest) (sdp : Sdp) → IsEndText sdp
     → AllAccepted requests (length (for_browser (first state) t sdp).media_lines)
-    → without [] (places_of requests (for_browser (first state) t sdp)) (for_browser (first state) t sdp) ≡ sdp
+    → without [] (places_of requests (for_browser (first state) t sdp)) (asked_of requests (for_browser (first state) t sdp))
+    ≡ sdp
 
 -- So is each section of any text.
 abbrev pub SectionsComeBack : Type 0

@@ -8,11 +8,16 @@ pub mod ForBrowsers
 pub mod ForEnds
 pub mod Identities
 pub mod InCommon
+pub mod Known
+pub mod KnownLaws
 pub mod Laws
 pub mod Lines
+pub mod Listing
+pub mod ListingLaws
 pub mod Names
 pub mod Places
 pub mod Reading
+pub mod Received
 pub mod Refusals
 pub mod Remotes
 pub mod Tidied

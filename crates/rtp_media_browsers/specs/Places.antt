@@ -1,5 +1,5 @@
 -- The sections of a browser's text: those an end sees, and those it doesn't (RFC 8829 5.2.2, 5.3.1).
-use Rattle.std.specs.Prelude.{ℕ, suc, Bool, true, false, not, ◌&&◌, ◌||◌, List, [], ◌∷◌, ◌++◌, filter, map, Option}
+use Rattle.std.specs.Prelude.{ℕ, suc, Bool, true, false, not, ◌&&◌, ◌||◌, ◌==◌, length, List, [], ◌∷◌, ◌++◌, filter, map, Option}
 use Rattle.std.specs.Prelude.{Some}
 use Rattle.std.specs.Prelude.{None}
 use Rattle.std.specs.Prelude.{slice_get, if◌then◌else◌}
@@ -16,10 +16,11 @@ use Rattle.rtp_media_browsers.specs.Names.{is_among}
 use Rattle.rtp_media_browsers.specs.declared.state.Place.{Place}
 use Rattle.rtp_media_browsers.specs.declared.state.Place.TheVariants.{Free, Kept, Taken}
 use Rattle.rtp_media_browsers.specs.declared.request.SectionRequest.{SectionRequest}
-use Rattle.rtp_media_browsers.specs.declared.request.SectionRequest.TheVariants.{Accept}
+use Rattle.rtp_media_browsers.specs.declared.request.SectionRequest.TheVariants.{Accept, Receive}
 
 abbrev pub is_accepted : Option SectionRequest → Bool
 is_accepted (Some (Accept direction ssrcs repairs)) = true
+is_accepted (Some Receive) = true
 is_accepted _ = false
 
 -- Whether port 0 only means that the section has no transport of its own: it is marked bundle-only and is in the bundle
@@ -27,11 +28,17 @@ is_accepted _ = false
 abbrev pub is_bundled_only : List (List ℕ) → MediaLine → Bool
 is_bundled_only bundle m = list_any is_bundle_only m.attrs && is_among bundle (mid_of m)
 
--- Whether a section of an offer is removed: it is neither audio nor video, or port 0 rejects it, or the request rejects
--- it.
+-- Whether a section is outside of the bundle that there is, and so has a transport of its own, which an end hasn't (RFC
+-- 9143 7.3).
+abbrev pub is_outside : List (List ℕ) → MediaLine → Bool
+is_outside bundle m = not (length bundle == 0) && not (is_among bundle (mid_of m))
+
+-- Whether a section of an offer is removed: it is neither audio nor video, or port 0 rejects it, or it is outside of the
+-- bundle, or the request rejects it.
 abbrev pub is_taken : List (List ℕ) → Option SectionRequest → MediaLine → Bool
 is_taken bundle request m =
-    not (is_media m.typ) || ((m.disabled && not (is_bundled_only bundle m)) || not (is_accepted request))
+    not (is_media m.typ)
+    || ((m.disabled && not (is_bundled_only bundle m)) || (is_outside bundle m || not (is_accepted request)))
 
 unfoldable pub is_map : MediaAttribute → Bool
 is_map (line.RtpMap pt value) = true

@@ -1,21 +1,24 @@
--- What the standards say of browsers' texts, in their own words: if a value is told, who opens the connection, in
--- which order types are listed, and what an end writes.
-use Rattle.std.specs.Prelude.{◌≡◌, ◌≢◌, ◌⊎◌, ℕ, Bool, true, false, not, List, [], ◌∷◌, codes, filter, map}
+-- What the standards say of browsers' texts, in their own words: if a value is told, who opens the connection, and what
+-- an end writes.
+use Rattle.std.specs.Prelude.{◌≡◌, ◌≢◌, ◌⊎◌, ℕ, Bool, true, false, not, ◌&&◌, IsTrue, List, []}
 use Rattle.std.specs.Prelude.{Option, None, Some}
-use Rattle.rtp_media_sections.specs.Lines.{line_of}
+use Rattle.std.specs.List.{list_all}
+use Rattle.rtp_media_exchange.specs.Offers.{sdp_of}
 use Rattle.rtp_media_sections.specs.Sections.{Section}
 use Rattle.sdp_formats_data.specs.ListedCandidates.{section_candidates, session_candidates}
 use Rattle.sdp_formats_data.specs.Lookups.{first_of, setup_in}
+use Rattle.sdp_formats_data.specs.Preference.{IsPreferred}
 use Rattle.sdp_formats_data.specs.Sections as sections
 use Rattle.sdp_formats_data.specs.Sessions as sessions
+use Rattle.sdp_formats_data.specs.Transport.{section_prints, session_prints}
 use Rattle.sdp_formats_data.specs.declared.media.MediaLine.{MediaLine}
 use Rattle.sdp_formats_data.specs.declared.session.Session.{Session}
-use Rattle.sdp_formats_data.specs.declared.session.SessionAttribute.TheVariants.{Group}
+use Rattle.sdp_formats_data.specs.declared.session.SessionAttribute.{SessionAttribute}
 use Rattle.sdp_formats_values.specs.declared.setup.Setup.{Setup}
 use Rattle.sdp_formats_values.specs.declared.setup.Setup.TheVariants.{ActPass, Active, Passive}
 use Rattle.rtp_media_browsers.specs.Fit.{left_over, may_say, settled}
-use Rattle.rtp_media_browsers.specs.Identities.{in_order, is_listed}
 use Rattle.rtp_media_browsers.specs.Laws.{IsEndText}
+use Rattle.rtp_media_browsers.specs.Lines.{is_bundle, stays_in_session}
 use Rattle.rtp_media_browsers.specs.Remotes.{Tells}
 use Rattle.rtp_media_browsers.specs.declared.state.Remote.{Remote}
 
@@ -37,11 +40,17 @@ pub record TellsCandidates (s : Session) (m : MediaLine) (remote : Remote) : Typ
   pub own : section_candidates m ≢ [] → remote.candidates ≡ section_candidates m
   pub shared : section_candidates m ≡ [] → remote.candidates ≡ session_candidates s
 
--- A value at the level of a section counts before the session's (RFC 8839 5.4, RFC 8842 5).
+-- And of fingerprints: the preferred one of the section's, or that of the session's if it has none (RFC 8122 5).
+pub record TellsFingerprint (s : Session) (m : MediaLine) (remote : Remote) : Type 0 where
+  pub own : section_prints m ≢ [] → IsPreferred (section_prints m) remote.fingerprint
+  pub shared : section_prints m ≡ [] → IsPreferred (session_prints s) remote.fingerprint
+
+-- A value at the level of a section counts before the session's (RFC 8839 5.4, RFC 8842 5, RFC 8122 5).
 pub record SectionsComeFirst (s : Session) (m : MediaLine) (remote : Remote) : Type 0 where
   pub creds : TellsCreds s m remote
   pub setup : TellsSetup s m remote
   pub candidates : TellsCandidates s m remote
+  pub fingerprint : TellsFingerprint s m remote
 
 abbrev pub TellsByLevels : Type 0
 TellsByLevels = (s : Session) (m : MediaLine) (remote : Remote) → Tells s m remote → SectionsComeFirst s m remote
@@ -60,20 +69,11 @@ pub record RolesFit : Type 0 where
   pub kept : (role : Setup) (remote : Option Setup) → left_over (Some role) remote ≡ Some role
   pub unsettled : (before : Option Setup) → settled before ActPass ≡ before
 
--- An answer's types in the offer's order (RFC 3264 6.1): the same types; those of the offer in its order, and after
--- them the others in the answer's own.
-pub record IsOrdered (offered types : List ℕ) : Type 0 where
-  pub same : (pt : ℕ) → is_listed (in_order offered types) pt ≡ is_listed types pt
-  pub of_offer : filter (is_listed offered) (in_order offered types) ≡ filter (is_listed types) offered
-  pub others : filter (λ pt. not (is_listed offered pt)) (in_order offered types)
-      ≡ filter (λ pt. not (is_listed offered pt)) types
+-- A session line of an end's own that a browser gets as it is: neither of the transport, nor a bundle.
+abbrev pub is_own_line : SessionAttribute → Bool
+is_own_line a = stays_in_session a && not (is_bundle a)
 
-abbrev pub OrdersTypes : Type 0
-OrdersTypes = (offered types : List ℕ) → IsOrdered offered types
-
--- What an end's offer or answer says of these sections is a text as ends write it, the premise of `return_law`.
+-- What the offer or answer of an end with such a session says of these sections is a text as ends write it, the premise
+-- of `return_law`.
 abbrev pub EndsWriteEndTexts : Type 0
-EndsWriteEndTexts = (id : ℕ) (all : List Section) → IsEndText (record {
-  session = record { id = id; bw = None; attrs = Group (codes "BUNDLE") (map (λ s. s.mid) all) ∷ [] };
-  media_lines = map line_of all;
-})
+EndsWriteEndTexts = (s : Session) (all : List Section) → IsTrue (list_all is_own_line s.attrs) → IsEndText (sdp_of s all)

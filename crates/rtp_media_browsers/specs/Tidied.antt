@@ -8,6 +8,7 @@ use Rattle.std.specs.Fmt.{decimal}
 use Rattle.std.specs.List.{list_any}
 use Rattle.sdp_formats_grammar.specs.Numbers.{number_below}
 use Rattle.sdp_formats_grammar.specs.Split.{behind, halves, parts}
+use Rattle.rtp_media_browsers.specs.Known.{known_line}
 
 -- What the lines of a text so far leave open: whether a section has begun; whether it may have no bandwidth any more;
 -- whether it has a name; the payload types that it maps; and how many sections are before it.
@@ -82,12 +83,12 @@ closing p = if not p.in_section || p.is_named then [] else name_line p.number
 abbrev pub ended : List ℕ → List ℕ
 ended line = line ++ codes "\n"
 
--- What is written of a line, and what is open after it.
+-- What is written of a line, and what is open after it; of format parameters those that are known.
 unfoldable pub written_line : Passing → List ℕ → List ℕ × Passing
 written_line p line =
     if is_left_out p line then ([], p)
     else if begins (codes "m=") line then (closing p ++ ended line, behind_section p)
-    else (ended line, behind_line p line)
+    else (ended (known_line line), behind_line p line)
 
 abbrev pub written : Passing → List (List ℕ) → List ℕ
 written p [] = closing p

@@ -2,13 +2,13 @@
 use Rattle.std.specs.Prelude.{ℕ, suc, List, [], ◌∷◌, map, slice_get, Option, Some, None, if◌then◌else◌}
 use Rattle.rtp_media_sections.specs.Lines.{kind_of, mid_of}
 use Rattle.rtp_media_sections.specs.Sections.{Wanted}
-use Rattle.rtp_wire.specs.declared.direction.Direction.TheVariants.{Inactive}
+use Rattle.rtp_wire.specs.declared.direction.Direction.TheVariants.{Inactive, RecvOnly}
 use Rattle.sdp_formats_data.specs.declared.media.MediaLine.{MediaLine}
 use Rattle.rtp_media_browsers.specs.Places.{is_place_of}
 use Rattle.rtp_media_browsers.specs.declared.state.Place.{Place}
 use Rattle.rtp_media_browsers.specs.declared.state.BrowserState.{BrowserState}
 use Rattle.rtp_media_browsers.specs.declared.request.SectionRequest.{SectionRequest}
-use Rattle.rtp_media_browsers.specs.declared.request.SectionRequest.TheVariants.{Accept}
+use Rattle.rtp_media_browsers.specs.declared.request.SectionRequest.TheVariants.{Accept, Receive}
 
 -- The place of the section of a name, counted from n on, if it has one.
 abbrev pub number_from : List ℕ → ℕ → List Place → Option ℕ
@@ -29,6 +29,7 @@ wanted (Some (Accept direction ssrcs repairs)) m = record {
   ssrcs = ssrcs.items;
   repairs = repairs.items;
 }
+wanted (Some Receive) m = record { mid = mid_of m; kind = kind_of m.typ; dir = RecvOnly; ssrcs = []; repairs = [] }
 wanted _ m = record { mid = mid_of m; kind = kind_of m.typ; dir = Inactive; ssrcs = []; repairs = [] }
 
 abbrev pub wanted_in : BrowserState → List SectionRequest → MediaLine → Wanted

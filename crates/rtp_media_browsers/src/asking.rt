@@ -7,9 +7,9 @@ ghost use Rattle.rtp_media_browsers.specs.Asking.{is_open, kind_from, left_over,
 ghost use Rattle.rtp_media_browsers.specs.Asking.{behind_choice, request_given};
 ghost use Rattle.rtp_media_browsers.specs.Tidied.{tidied};
 
+use crate::bundle::Bundle;
 use crate::error::BrowserError;
 use crate::lines::bundled;
-use crate::placing::is_bundled_only;
 use crate::reading::read_whole;
 use crate::repairing::test_repairs;
 use crate::request::SectionRequest;
@@ -17,7 +17,7 @@ use crate::tidying::tidied;
 use media_types::MediaKind;
 use rtp_media_sections::{kind_of, mid_of};
 use rtp_wire::Mid;
-use sdp_formats_data::{MediaLine, NameSet};
+use sdp_formats_data::MediaLine;
 use std::alloc::{AllocError, AllocFailed, Global};
 use thiserror::Error;
 
@@ -88,11 +88,13 @@ impl<T: Drop> From<AllocFailed<T>> for RequestError {
     }
 }
 
-/// Whether a section of an offer is one of media in use.
-fn is_open(bundle: &NameSet<'_>, section: &MediaLine) -> bool
+/// Whether a section of an offer is one of media in use, with the transport that an end has.
+fn is_open(bundle: &Bundle<'_>, section: &MediaLine) -> bool
     ensures { result ≡ is_open bundle.now section.now }
 {
-    section.typ.is_media() && (!section.disabled || is_bundled_only(bundle, section))
+    section.typ.is_media()
+        && (!section.disabled || bundle.has_only(section))
+        && !bundle.is_without(section)
 }
 
 #[tactic(auto, unfolding(crate::specs::Asking::is_for_mid))]
@@ -150,7 +152,7 @@ fn place_asked(asked: &[NamedRequest], section: &MediaLine) -> Option<usize>
     }
 }
 
-fn chosen(bundle: &NameSet<'_>, asked: &[NamedRequest], section: &MediaLine) -> Option<usize>
+fn chosen(bundle: &Bundle<'_>, asked: &[NamedRequest], section: &MediaLine) -> Option<usize>
     ensures { result ≡ chosen bundle.now asked.now section.now }
 {
     if !is_open(bundle, section) {
@@ -185,7 +187,7 @@ fn given(
     ensures requests { IfOk result (λ w. w.items ≡ given bundle.now asked.old.items sections.now) }
     ensures left { IfOk result (λ w. asked.new.items ≡ left_over bundle.now asked.old.items sections.now) }
 {
-    let bundle = NameSet::of(alloc, bundle)?;
+    let bundle = Bundle::of(alloc, bundle)?;
     let mut requests = Vec::new(alloc);
     for section in sections {
         let number = chosen(&bundle, asked.as_slice(), section);

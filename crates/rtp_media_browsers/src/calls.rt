@@ -12,6 +12,7 @@ use crate::kept_lines::of_sections;
 use crate::lines::{allows_mixed, bundled};
 use crate::placing::{left, places_of};
 use crate::reading::{handed, read_whole};
+use crate::received::asked_of;
 use crate::refusals::{test_answer, test_offer, test_own};
 use crate::request::SectionRequest;
 use crate::state::BrowserState;
@@ -42,7 +43,8 @@ pub(crate) fn offer_handed(
     let olds = state.sections.as_slice();
     test_offer(alloc, offer, olds, &sdp, sections.as_slice())?;
     let remote = told(alloc, &sdp.session, sections.as_slice())?;
-    let kept = of_sections(alloc, &sdp.session, olds, sections)?;
+    let asked = asked_of(alloc, requests, places.as_slice(), all, sections)?;
+    let kept = of_sections(alloc, &sdp.session, olds, asked)?;
     let text = handed(alloc, offer, &sdp, &kept)?;
     state.places = places;
     state.sections = kept.media_lines;
@@ -54,13 +56,16 @@ pub(crate) fn offer_handed(
 
 /// The text that an end understands of a browser's offer, for its `answer` with what `sections_for` then gives: first
 /// the sections that the end has already, in its own order, then the offer's new ones in theirs. Sections of data,
-/// those of port 0 and those that no request accepts are left out, and so are the lines of the transport. A
+/// those of port 0, those outside of the bundle (RFC 9143 7.3) and those that no request accepts are left out, and so
+/// are the lines of the transport. A
 /// section that the end has already is never left out: if the browser or the request stops it, it is inactive. A
 /// section that only has no transport of its own, as Firefox's with `max-bundle`, is one like any other. `requests` has
 /// a request for each section of the offer, in order; a section without one is rejected.
 ///
 /// Lines that browsers pass over are passed over here: empty ones, a section's later lines of bandwidth and those after
 /// an attribute, and further maps of a payload type. A section without a name gets one by its place, as `place_2`.
+///
+/// Of a section in which the end only receives by its request, the end reads that the browser only sends.
 ///
 /// The state remembers the places, and what the offer tells of the browser's transport. If the end then refuses the
 /// text, or the offer is given up, go on with a copy of the state that was made before.

@@ -33,7 +33,7 @@ pub(crate) fn section_named(sections: &[MediaLine], mid: Mid) -> Option<&MediaLi
 
 /// Whether it says what a payload type is.
 #[tactic(auto, unfolding(crate::specs::Following::is_of_type))]
-fn is_of_type(attribute: &MediaAttribute) -> bool
+pub(crate) fn is_of_type(attribute: &MediaAttribute) -> bool
     ensures { result ≡ is_of_type attribute.now }
 {
     matches!(

@@ -1,17 +1,16 @@
 //! Sections of an end as a browser is told of them.
 
-ghost use Rattle.std.specs.Prelude.{◌≡◌, ◌++◌, Some, IfOk, OnOk, filter, map};
+ghost use Rattle.std.specs.Prelude.{◌≡◌, ◌++◌, Some, IfOk, OnOk, map};
 ghost use Rattle.std.specs.Option.{option_copied};
-ghost use Rattle.rtp_media_browsers.specs.Identities.{identified, in_order, is_listed, is_track_of, named_line};
-ghost use Rattle.rtp_media_browsers.specs.Identities.{named_value, ordered, track_lines, tracks_sent, with_order};
+ghost use Rattle.rtp_media_browsers.specs.Identities.{identified, is_track_of, named_line, named_value};
+ghost use Rattle.rtp_media_browsers.specs.Identities.{track_lines, tracks_sent};
 ghost use Rattle.rtp_media_sections.specs.Lines.{mid_of};
 ghost use Rattle.rtp_wire.specs.Direction.{sends};
 ghost use Rattle.sdp_formats_data.specs.Lookups.{direction_of};
 
-use crate::following::section_named;
 use crate::identity::{Identity, Track};
 use rtp_media_sections::mid_of;
-use rtp_wire::{Mid, Pt};
+use rtp_wire::Mid;
 use sdp_formats_data::{MediaAttribute, MediaLine};
 use sdp_formats_grammar::{Listed, Text};
 use std::alloc::{AllocError, Global};
@@ -125,68 +124,4 @@ pub(crate) fn identified(
         Some(identity) => with_identity(alloc, identity, section),
         None => Ok(section),
     }
-}
-
-fn is_listed(types: &[Pt], pt: Pt) -> bool
-    ensures { result ≡ is_listed types.now pt }
-{
-    types.iter().any(|other| other.get() == pt.get())
-}
-
-/// Those of the types that are listed.
-fn listed_in(alloc: Global, types: &[Pt], others: &[Pt]) -> Result<Vec<Pt>, AllocError>
-    ensures { IfOk result (λ v. v.items ≡ filter (is_listed types.now) others.now) }
-{
-    let mut listed = Vec::new(alloc);
-    for pt in others {
-        if is_listed(types, *pt) {
-            listed.push(*pt)?;
-        }
-    }
-    Ok(listed)
-}
-
-/// Payload types in the order in which others list them, and after these the ones that aren't there.
-fn in_order(alloc: Global, others: &[Pt], types: &[Pt]) -> Result<Listed<Pt>, AllocError>
-    ensures { IfOk result (λ l. l ≡ in_order others.now types.now) }
-{
-    let mut ordered = Listed::of(listed_in(alloc, types, others)?);
-    for pt in types {
-        if !is_listed(others, *pt) {
-            ordered.push(*pt)?;
-        }
-    }
-    Ok(ordered)
-}
-
-/// An answer's section with its payload types in the offer's order.
-fn with_order(
-    alloc: Global,
-    offered: Option<&MediaLine>,
-    section: MediaLine,
-) -> Result<MediaLine, AllocError>
-    ensures { IfOk result (λ m. m ≡ with_order (option_copied offered.entry) section) }
-{
-    let mut section = section;
-    if let Some(offered) = offered {
-        let types = in_order(alloc, offered.pts.as_slice(), section.pts.as_slice())?;
-        section.pts = types;
-    }
-    Ok(section)
-}
-
-/// A section with its payload types in the offer's order, in an answer.
-pub(crate) fn ordered(
-    alloc: Global,
-    is_answer: bool,
-    olds: &[MediaLine],
-    section: MediaLine,
-) -> Result<MediaLine, AllocError>
-    ensures { IfOk result (λ m. m ≡ ordered is_answer olds.now section) }
-{
-    if !is_answer {
-        return Ok(section);
-    }
-    let offered = section_named(olds, mid_of(&section));
-    with_order(alloc, offered, section)
 }

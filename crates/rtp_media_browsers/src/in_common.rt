@@ -4,7 +4,7 @@ ghost use Rattle.std.specs.Prelude.{◌≡◌, ◌≢◌, ◌&&◌, ◌==◌, If
 ghost use Rattle.std.specs.List.{list_any};
 ghost use Rattle.rtp_media_browsers.specs.Calls.{RefusesOffer};
 ghost use Rattle.rtp_media_browsers.specs.InCommon.{AreInCommon, HasRows, Lacks, RefusesInCommon, Rejects, SaysToEnd};
-ghost use Rattle.rtp_media_browsers.specs.InCommon.{after_first, begins_with_named, has_named, is_answered, left_of};
+ghost use Rattle.rtp_media_browsers.specs.InCommon.{after_first, begins_with_named, has_named, is_answered, left_of, less_of};
 ghost use Rattle.rtp_media_browsers.specs.InCommon.{names_without, without_named};
 ghost use Rattle.rtp_media_browsers.specs.Tidied.{tidied};
 ghost use Rattle.rtp_media_exchange.specs.Refusals.{answers_none};
@@ -192,16 +192,31 @@ fn after_first(places: &[Place]) -> &[Place]
     }
 }
 
-fn left_of(is_rejected: bool, request: SectionRequest) -> SectionRequest
-    ensures { result ≡ left_of is_rejected request }
+/// The request for a section that has no row in common with the end.
+fn less_of(request: &SectionRequest) -> SectionRequest
+    ensures { result ≡ less_of request.now }
 {
-    if is_rejected {
-        return SectionRequest::Reject;
+    match request {
+        SectionRequest::Accept { direction, .. } => {
+            if direction.is_receiving() {
+                return SectionRequest::Receive;
+            }
+            SectionRequest::Reject
+        }
+        SectionRequest::Receive | SectionRequest::Reject => SectionRequest::Reject,
+    }
+}
+
+fn left_of(is_named: bool, request: SectionRequest) -> SectionRequest
+    ensures { result ≡ left_of is_named request }
+{
+    if is_named {
+        return less_of(&request);
     }
     request
 }
 
-/// The requests, place by place: those of sections of these names are rejected.
+/// The requests, place by place: those of sections of these names are less.
 fn without_named(
     alloc: Global,
     names: &NameSet<'_>,
@@ -219,7 +234,7 @@ fn without_named(
     Ok(left)
 }
 
-/// Rejects the sections without a row in common of a tidied offer; and whether there are some.
+/// Asks less of the sections without a row in common of a tidied offer; and whether there are some.
 fn reject_lacking(
     alloc: Global,
     state: &BrowserState,
@@ -245,7 +260,7 @@ fn reject_lacking(
 }
 
 /// The same until there is none.
-#[tactic(auto, using(crate::proofs::FewerRequests::nothing_rejected, crate::proofs::FewerRequests::one_more_turn, crate::proofs::FewerRequests::in_common, crate::proofs::FewerRequests::not_in_common, crate::proofs::FewerRequests::fewer_accepted))]
+#[tactic(auto, using(crate::proofs::FewerRequests::nothing_rejected, crate::proofs::FewerRequests::one_more_turn, crate::proofs::FewerRequests::in_common, crate::proofs::FewerRequests::not_in_common, crate::proofs::FewerRequests::fewer_asked))]
 fn reject_in_turn(
     alloc: Global,
     state: &BrowserState,
@@ -270,9 +285,10 @@ fn reject_in_turn(
 
 /// The requests for an offer, with those rejected whose sections have no row in common with the end (RFC 3264 6), and
 /// all others as they are, for `for_end` and `sections_for`: the sections to which the answer of an end with this
-/// config would list no row. The rounds go without what is rejected, so the offer is looked at again until there is
-/// none, at most once for each request that accepts. The end then doesn't refuse what it is handed as `NoCommonRow`,
-/// except for a section that was stopped.
+/// config would list no row. If the end has the codec, but under a type of another section, it only receives in the
+/// section. The rounds go without what is rejected, so the offer is looked at again until there is none, at most twice
+/// for each request that accepts. The end then doesn't refuse what it is handed as `NoCommonRow`, except for a section
+/// that was stopped.
 ///
 /// `config` is the end's own, as `End::config` tells it; `state` is that from before the offer, and doesn't change.
 ///

@@ -6,10 +6,14 @@ ghost use Rattle.rtp_media_browsers.specs.AnswerLaws.{AnswersEachSection, TextsA
 ghost use Rattle.rtp_media_browsers.specs.InCommon.{AnswersInCommon, OnlyRejects};
 ghost use Rattle.rtp_media_browsers.specs.Laws.{AreWanted, ComesBack, EachInItsPlace, GoesOn, IsHalted, LinesStay};
 ghost use Rattle.rtp_media_browsers.specs.Laws.{NothingChanges, SectionsComeBack, TakenAreRejected};
-ghost use Rattle.rtp_media_browsers.specs.StandardLaws.{EndsWriteEndTexts, OrdersTypes, RolesFit, TellsByLevels};
+ghost use Rattle.rtp_media_browsers.specs.KnownLaws.{ReadsKnown};
+ghost use Rattle.rtp_media_browsers.specs.ListingLaws.{AnswersListOffered};
+ghost use Rattle.rtp_media_browsers.specs.StandardLaws.{EndsWriteEndTexts, RolesFit, TellsByLevels};
 ghost use Rattle.rtp_media_browsers.specs.declared.state.BrowserState.{BrowserState};
 ghost use Rattle.rtp_media_browsers.specs.declared.transport.Transport.{Transport};
 ghost use Rattle.rtp_media_browsers.specs.declared.request.SectionRequest.{SectionRequest};
+
+use sdp_formats_reader::{pairs_law, printed_pairs_law};
 
 /// If each section is accepted, the first text made for a browser from an end's text reads, for an end, as that text
 /// again: a text as ends write them, of audio and video that isn't rejected, without transport lines, whose BUNDLE
@@ -52,7 +56,7 @@ pub fn lines_law()
 {}
 
 /// What a section of a browser's text tells of its transport comes before what the session tells: credentials and
-/// candidates (RFC 8839 5.4), and the role (RFC 8842 5).
+/// candidates (RFC 8839 5.4), the role (RFC 8842 5), and the fingerprint, the preferred one of several (RFC 8122 5).
 pub fn levels_law()
     ensures { TellsByLevels }
 {}
@@ -63,13 +67,15 @@ pub fn roles_law()
     ensures { RolesFit }
 {}
 
-/// An answer lists the same payload types as the end's own text: those of the offer first and in its order, then the
-/// others in the answer's (RFC 3264 6.1).
+/// Each section of an answer for a browser lists, of the types that the browser offered in this section, some in its
+/// order, each with the codec, parameters that match and the type that it repairs or adds redundancy to, and with
+/// feedback that was offered, whatever other sections say (RFC 3264 6.1).
 pub fn order_law()
-    ensures { OrdersTypes }
+    ensures { AnswersListOffered }
 {}
 
-/// An end's offer or answer is a text as ends write it, the premise of `return_law`.
+/// The offer or answer of an end, whose own session lines are neither of the transport nor a bundle, is a text as ends
+/// write it, the premise of `return_law`.
 pub fn end_text_law()
     ensures { EndsWriteEndTexts }
 {}
@@ -80,3 +86,12 @@ pub fn in_common_law()
     ensures others { OnlyRejects }
     ensures answers { AnswersInCommon }
 {}
+
+/// Of the parameters that a browser's text gives a payload type, each that is known is read as it is alone, whatever is
+/// around it (RFC 8866 6.15, RFC 6184 8.2.2, RFC 9628 7).
+pub fn parameters_law()
+    ensures { ReadsKnown }
+{
+    pairs_law();
+    printed_pairs_law();
+}

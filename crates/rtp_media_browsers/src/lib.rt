@@ -2,6 +2,7 @@
 #![tactic(auto)]
 
 mod asking;
+mod bundle;
 mod calls;
 mod copies;
 mod defaults;
@@ -12,14 +13,18 @@ mod identifying;
 mod identity;
 mod in_common;
 mod kept_lines;
+mod known;
 mod laws;
 mod lines;
+mod listing;
 mod names;
 mod placing;
 mod reading;
+mod received;
 mod refusals;
 mod repairing;
 mod request;
+mod said_lines;
 mod state;
 mod stopping;
 mod telling;
@@ -37,7 +42,7 @@ pub use identity::{Identity, Said, Track};
 pub use in_common::requests_in_common;
 pub use laws::{
     answer_law, end_text_law, following_law, in_common_law, levels_law, lines_law, order_law,
-    places_law, return_law, roles_law,
+    parameters_law, places_law, return_law, roles_law,
 };
 pub use request::SectionRequest;
 pub use state::{BrowserState, Place, Remote};

@@ -12,7 +12,7 @@ use sdp_formats_grammar::{first_part, stripped};
 use std::alloc::{AllocError, Global};
 
 /// The line without the CR before its LF.
-fn without_return(line: &str) -> &str
+pub(crate) fn without_return(line: &str) -> &str
     ensures { result.now ≡ without_return line.now }
 {
     match line.strip_suffix('\r') {

@@ -1,38 +1,32 @@
 //! The places of the sections of a browser's text.
 
 ghost use Rattle.std.specs.Prelude.{◌≡◌, ◌++◌, IfOk, OnOk, filter};
-ghost use Rattle.rtp_media_browsers.specs.Places.{after_place, at_place, if_any, is_bundled_only, is_map};
+ghost use Rattle.rtp_media_browsers.specs.Places.{after_place, at_place, if_any, is_map};
 ghost use Rattle.rtp_media_browsers.specs.Places.{is_place_of, is_taken, left, left_at, place_of, placed, placed_from};
 ghost use Rattle.rtp_media_browsers.specs.Places.{places_from, rejected, rejected_media};
 ghost use Rattle.std.specs.Option.{option_copied};
 
+use crate::bundle::Bundle;
 use crate::following::{push_new, section_named};
-use crate::lines::has_bundle_only;
 use crate::request::{SectionRequest, is_accepted};
 use crate::state::Place;
 use rtp_media_sections::mid_of;
 use rtp_wire::Mid;
-use sdp_formats_data::{MediaAttribute, MediaLine, NameSet};
+use sdp_formats_data::{MediaAttribute, MediaLine};
 use sdp_formats_grammar::Listed;
 use std::alloc::{AllocError, Global};
 
-/// Whether port 0 only means that the section has no transport of its own.
-pub(crate) fn is_bundled_only(bundle: &NameSet<'_>, section: &MediaLine) -> bool
-    ensures { result ≡ is_bundled_only bundle.now section.now }
-{
-    has_bundle_only(section.attrs.as_slice()) && bundle.has(mid_of(section))
-}
-
 /// Whether a section of an offer is removed.
 pub(crate) fn is_taken(
-    bundle: &NameSet<'_>,
+    bundle: &Bundle<'_>,
     request: Option<&SectionRequest>,
     section: &MediaLine,
 ) -> bool
     ensures { result ≡ is_taken bundle.now (option_copied request.entry) section.now }
 {
     !section.typ.is_media()
-        || (section.disabled && !is_bundled_only(bundle, section))
+        || (section.disabled && !bundle.has_only(section))
+        || bundle.is_without(section)
         || !is_accepted(request)
 }
 
@@ -92,7 +86,7 @@ pub(crate) fn rejected(alloc: Global, section: &MediaLine) -> Result<MediaLine, 
 /// The place of a section of an offer.
 fn place_of(
     alloc: Global,
-    bundle: &NameSet<'_>,
+    bundle: &Bundle<'_>,
     request: Option<&SectionRequest>,
     section: &MediaLine,
 ) -> Result<Place, AllocError>
@@ -113,7 +107,7 @@ pub(crate) fn places_of(
 ) -> Result<Listed<Place>, AllocError>
     ensures { IfOk result (λ l. l ≡ places_from bundle.now requests.now 0 sections.now) }
 {
-    let bundle = NameSet::of(alloc, bundle)?;
+    let bundle = Bundle::of(alloc, bundle)?;
     let mut places = Listed::new(alloc);
     for (number, section) in sections.iter().enumerate() {
         places.push(place_of(alloc, &bundle, requests.get(number), section)?)?;

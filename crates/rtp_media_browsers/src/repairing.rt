@@ -38,7 +38,7 @@ fn has_repairs(request: &SectionRequest) -> bool
 {
     match request {
         SectionRequest::Accept { repairs, .. } => !repairs.is_empty(),
-        SectionRequest::Reject => false,
+        SectionRequest::Receive | SectionRequest::Reject => false,
     }
 }
 

@@ -2,6 +2,7 @@
 
 ghost use Rattle.std.specs.Prelude.{◌≡◌};
 ghost use Rattle.rtp_media_browsers.specs.Places.{is_accepted};
+ghost use Rattle.rtp_media_browsers.specs.Received.{is_received};
 ghost use Rattle.std.specs.Option.{option_copied};
 
 use rtp_wire::{Direction, Ssrc};
@@ -18,6 +19,9 @@ pub enum SectionRequest {
         /// Pairs of one of them and the SSRC under which its datagrams are sent again (RFC 4588 8.3).
         repairs: Vec<(Ssrc, Ssrc)>,
     },
+    /// The end answers the section and only receives in it, without SSRCs of its own: under the types that the section
+    /// offers, even if other sections have the same codecs under other types.
+    Receive,
     /// The section is rejected (RFC 8829 5.3.1).
     Reject,
 }
@@ -26,5 +30,15 @@ pub enum SectionRequest {
 pub(crate) fn is_accepted(request: Option<&SectionRequest>) -> bool
     ensures { result ≡ is_accepted (option_copied request.entry) }
 {
-    matches!(request, Some(SectionRequest::Accept { .. }))
+    matches!(
+        request,
+        Some(SectionRequest::Accept { .. } | SectionRequest::Receive)
+    )
+}
+
+/// Whether the end only receives in a section.
+pub(crate) fn is_received(request: Option<&SectionRequest>) -> bool
+    ensures { result ≡ is_received (option_copied request.entry) }
+{
+    matches!(request, Some(SectionRequest::Receive))
 }

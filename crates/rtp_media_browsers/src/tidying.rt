@@ -2,10 +2,12 @@
 
 ghost use Rattle.std.specs.Prelude.{◌≡◌, ◌++◌, IfOk, OnOk};
 ghost use Rattle.std.specs.String.{string_bytes};
+ghost use Rattle.rtp_media_browsers.specs.Known.{known_line};
 ghost use Rattle.rtp_media_browsers.specs.Tidied.{begins, behind_line, behind_section, closing, ended, has_type};
 ghost use Rattle.rtp_media_browsers.specs.Tidied.{is_again, is_blank, is_left_out, mapped_type, name_line, next_number};
 ghost use Rattle.rtp_media_browsers.specs.Tidied.{start, tidied, with_type, written_line};
 
+use crate::known::known_line;
 use sdp_formats_grammar::{first_part, halves, number_8, stripped};
 use std::alloc::{AllocError, Global};
 use std::marker::Model;
@@ -185,13 +187,14 @@ impl Passed {
         push_ended(alloc, line, out)
     }
 
-    /// Adds any other line.
+    /// Adds any other line, of format parameters those that are known.
     fn push_other(&mut self, alloc: Global, line: &str, out: &mut String) -> Result<(), AllocError>
         ensures after { OnOk result (self.new ≡ behind_line self.old line.now) }
-        ensures text { OnOk result (string_bytes out.new ≡ string_bytes out.old ++ ended line.now) }
+        ensures text { OnOk result (string_bytes out.new ≡ string_bytes out.old ++ ended (known_line line.now)) }
     {
         self.pass_line(line)?;
-        push_ended(alloc, line, out)
+        let known = known_line(alloc, line)?;
+        push_ended(alloc, known.as_str(), out)
     }
 
     /// Adds what is written of a line.
@@ -211,7 +214,8 @@ impl Passed {
 }
 
 /// A text without the lines that browsers pass over: empty ones, a section's later lines of bandwidth and those after
-/// an attribute (RFC 8866 5), and further maps of a payload type. A section without a name gets that of its place.
+/// an attribute (RFC 8866 5), and further maps of a payload type. A section without a name gets that of its place. Of
+/// format parameters only those that are known stay.
 ///
 /// # Errors
 ///

@@ -67,6 +67,13 @@ fn wanted(
             ssrcs: ssrcs.clone()?,
             repairs: repairs.clone()?,
         }),
+        Some(SectionRequest::Receive) => Ok(SectionSpec {
+            mid: mid_of(section),
+            kind: kind_of(&section.typ),
+            dir: Direction::RecvOnly,
+            ssrcs: Vec::new(alloc),
+            repairs: Vec::new(alloc),
+        }),
         _ => Ok(SectionSpec {
             mid: mid_of(section),
             kind: kind_of(&section.typ),

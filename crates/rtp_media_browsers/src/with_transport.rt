@@ -9,8 +9,9 @@ ghost use Rattle.rtp_media_browsers.specs.ForBrowsers.{session_with_transport};
 ghost use Rattle.rtp_media_browsers.specs.ForBrowsers.{for_browser, is_in_use, names_in_use, shown, told_section};
 ghost use Rattle.rtp_media_browsers.specs.ForBrowsers.{gathering_lines, lite_line, mixed_line, transport_lines};
 
-use crate::identifying::{identified, ordered};
+use crate::identifying::identified;
 use crate::lines::is_bundle_name;
+use crate::listing::listed_for;
 use crate::placing::placed;
 use crate::state::BrowserState;
 use crate::transport::{Gathering, Transport};
@@ -83,7 +84,7 @@ fn push_transport(
 
 /// Whether it is the section's name.
 #[tactic(auto, unfolding(sdp_formats_data::specs::Media::is_mid))]
-fn is_mid(attribute: &MediaAttribute) -> bool
+pub(crate) fn is_mid(attribute: &MediaAttribute) -> bool
     ensures { result ≡ is_mid attribute.now }
 {
     matches!(attribute, MediaAttribute::Mid(_))
@@ -147,7 +148,7 @@ fn told_section(
     ensures { IfOk result (λ m. m ≡ told_section state.now transport.now section) }
 {
     let section = section_with_transport(alloc, transport, section)?;
-    let section = ordered(
+    let section = listed_for(
         alloc,
         state.is_answering,
         state.sections.as_slice(),

@@ -1,6 +1,6 @@
 use Rattle.std.proofs.Common.{arith}
 use Rattle.std.proofs.lemmas.Grind.{common_steps}
-use Rattle.rtp_media_browsers.proofs.identifying.in_order.Goals as goal
+use Rattle.rtp_media_browsers.proofs.listing.types_in_order.Goals as goal
 
 pub loop-pt-preserved : goal.loop-pt-preserved
 loop-pt-preserved c = grind (arith, common_steps)
