@@ -59,6 +59,7 @@ fn answered(
     ensure!(are_sound(sections.as_slice()), "unsound repairs");
     let answer = end.answer(handed.as_str(), sections)?;
     let text = for_browser(alloc, state, answer.as_str(), &transport(alloc)?)?;
+    end.take_types(text.as_str())?; // its streams go by what each section lists
     Ok(text)
 }
 
