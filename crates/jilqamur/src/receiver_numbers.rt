@@ -28,7 +28,7 @@ pub extern "C" fn jilqamur_receiver_missing(
 ) -> u32
     ensures answer { AtObject (receiver_in receiver.old) (receiver_in receiver.new) result
         (λ p after. result ≢ memory
-            → IsCopied (missing p.stream.stream) numbers.old result needed.new numbers.new) }
+        → IsCopied (missing p.stream.stream) numbers.old result needed.new numbers.new) }
     ensures kept { result ≢ ok → numbers.new ≡ numbers.old }
     ensures needed { result ≢ ok → result ≢ too_small → needed.new ≡ needed.old }
     ensures unchanged { receiver_in receiver.new ≡ receiver_in receiver.old }
