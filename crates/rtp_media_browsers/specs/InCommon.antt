@@ -68,8 +68,8 @@ abbrev pub after_first : List Place → List Place
 after_first [] = []
 after_first (p ∷ ps) = ps
 
--- The request for a section without a row in common: only to receive in it, if the end would receive, and then to reject
--- it.
+-- The request for a section without a row in common: only to receive in it, if the end would receive, and then to
+-- reject it.
 abbrev pub less_of : SectionRequest → SectionRequest
 less_of (Accept direction ssrcs repairs) = if receives direction then Receive else Reject
 less_of _ = Reject

@@ -1,5 +1,6 @@
--- Format parameters of browsers' texts (RFC 8866 6.15). What an end doesn't know is left out, so that each parameter that
--- it knows is read as if it were alone, whatever is around it (RFC 6184 8.2.2, RFC 9628 7: unknown ones are ignored).
+-- Format parameters of browsers' texts (RFC 8866 6.15). What an end doesn't know is left out, so that each parameter
+-- that it knows is read as if it were alone, whatever is around it (RFC 6184 8.2.2, RFC 9628 7: unknown ones are
+-- ignored).
 use Rattle.std.specs.Prelude.{ℕ, Bool, true, false, not, ◌||◌, List, [], ◌∷◌, ◌++◌, codes, filter, Option, None, Some}
 use Rattle.std.specs.List.{flat_map}
 use Rattle.sdp_formats_grammar.specs.Line.{without_return}

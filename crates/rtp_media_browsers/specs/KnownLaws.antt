@@ -8,8 +8,8 @@ use Rattle.sdp_formats_values.specs.declared.pairs.Pair.{Pair}
 use Rattle.sdp_formats_values.specs.declared.param.FormatParam.TheVariants.{Unknown}
 use Rattle.rtp_media_browsers.specs.Known.{known_alone, known_in, known_parameters}
 
--- A text without a semicolon has the pair that the reader finds in it, unless that says nothing; the two sides of any semicolon have what
--- they have without each other; and what is left of a text is read as just that, in its order.
+-- A text without a semicolon has the pair that the reader finds in it, unless that says nothing; the two sides of any
+-- semicolon have what they have without each other; and what is left of a text is read as just that, in its order.
 pub record ReadsKnown : Type 0 where
   pub kept : (part : List ℕ) (p : Pair) → pairs_of part ≡ Some (p ∷ []) → pair_param p ≢ Unknown
       → known_alone part ≡ p ∷ []

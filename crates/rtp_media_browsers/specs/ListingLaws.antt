@@ -16,13 +16,13 @@ use Rattle.rtp_media_browsers.specs.declared.state.Place.TheVariants.{Kept}
 use Rattle.rtp_media_browsers.specs.declared.state.BrowserState.{BrowserState}
 use Rattle.rtp_media_browsers.specs.declared.transport.Transport.{Transport}
 
--- The offered section lists this type, and it repairs, or adds redundancy to, the same one there (RFC 4588 8.1, RFC 2198
--- 5).
+-- The offered section lists this type, and it repairs, or adds redundancy to, the same one there (RFC 4588 8.1, RFC
+-- 2198 5).
 abbrev pub IsLinked : MediaLine → Option ℕ → Option ℕ → Type 0
 IsLinked offered own there = (t : ℕ) → own ≡ Some t → (there ≡ Some t) × (is_listed offered.pts t ≡ true)
 
--- A row of the offered section: its type is listed there, with a codec and parameters that match, and so are its types of
--- retransmissions and of redundancy; and it has the feedback that is given there (RFC 4585 4.2, RFC 5104 7.1).
+-- A row of the offered section: its type is listed there, with a codec and parameters that match, and so are its types
+-- of retransmissions and of redundancy; and it has the feedback that is given there (RFC 4585 4.2, RFC 5104 7.1).
 pub record IsOffered (offered : MediaLine) (row : Row) : Type 0 where
   pub there : Row
   pub one_of : IsIn there (rows_of offered.pts offered.attrs)

@@ -1,5 +1,6 @@
 -- The sections of a browser's text: those an end sees, and those it doesn't (RFC 8829 5.2.2, 5.3.1).
-use Rattle.std.specs.Prelude.{ℕ, suc, Bool, true, false, not, ◌&&◌, ◌||◌, ◌==◌, length, List, [], ◌∷◌, ◌++◌, filter, map, Option}
+use Rattle.std.specs.Prelude.{ℕ, suc, Bool, true, false, not, ◌&&◌, ◌||◌, ◌==◌}
+use Rattle.std.specs.Prelude.{length, List, [], ◌∷◌, ◌++◌, filter, map, Option}
 use Rattle.std.specs.Prelude.{Some}
 use Rattle.std.specs.Prelude.{None}
 use Rattle.std.specs.Prelude.{slice_get, if◌then◌else◌}
@@ -33,8 +34,8 @@ is_bundled_only bundle m = list_any is_bundle_only m.attrs && is_among bundle (m
 abbrev pub is_outside : List (List ℕ) → MediaLine → Bool
 is_outside bundle m = not (length bundle == 0) && not (is_among bundle (mid_of m))
 
--- Whether a section of an offer is removed: it is neither audio nor video, or port 0 rejects it, or it is outside of the
--- bundle, or the request rejects it.
+-- Whether a section of an offer is removed: it is neither audio nor video, or port 0 rejects it, or it is outside of
+-- the bundle, or the request rejects it.
 abbrev pub is_taken : List (List ℕ) → Option SectionRequest → MediaLine → Bool
 is_taken bundle request m =
     not (is_media m.typ)

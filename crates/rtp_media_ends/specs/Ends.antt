@@ -138,8 +138,8 @@ refusal_by agrees flows names is_open =
     else if is_open then Some AlreadyOpen
     else None
 
--- Whether an end's rows agree with a row of an agreed section: one of them is locked under its type and is the same to a
--- stream; or the section took its rows from a text.
+-- Whether an end's rows agree with a row of an agreed section: one of them is locked under its type and is the same to
+-- a stream; or the section took its rows from a text.
 abbrev pub agrees_in : List Row → Agreed → Row → Bool
 agrees_in own a row = a.by_text || own_row_agrees own row
 

@@ -116,8 +116,8 @@ impl End {
         streams.keep_within(stream, bytes);
     }
 
-    /// Whether a frame of a receiving stream ends with a packet, by its marker bit and its payload without padding: what
-    /// [`Forwarder::forward`](rtp_media_forward::Forwarder::forward) is told.
+    /// Whether a frame of a receiving stream ends with a packet, by its marker bit and its payload without padding:
+    /// what [`Forwarder::forward`](rtp_media_forward::Forwarder::forward) is told.
     ///
     /// # Conditions
     /// The number is that of a receiving stream: [`End::is_receiver`].
@@ -129,9 +129,9 @@ impl End {
     }
 
     /// The missing numbers of a receiving stream, in increasing order: those after the last unit's, or, before any
-    /// unit, after the lowest number that waits or was taken, that were not taken, below the greatest that was and within
-    /// the replay window. These, and no others, are worth asking for (generic NACK, RFC 4585 6.2.1); they are at most
-    /// 1,023.
+    /// unit, after the lowest number that waits or was taken, that were not taken, below the greatest that was and
+    /// within the replay window. These, and no others, are worth asking for (generic NACK, RFC 4585 6.2.1); they are at
+    /// most 1,023.
     ///
     /// # Conditions
     /// The number is that of a receiving stream: [`End::is_receiver`].
