@@ -318,6 +318,8 @@ static size_t add_transport(jilqamur_end *end, uint8_t *text, uint8_t setup)
                                                 digest, sizeof digest));
     say("text: %u\n", jilqamur_end_text(end, text, MOST_TEXT, &len));
     say("%.*s", (int)len, (const char *)text);
+    if (setup != JILQAMUR_ACTPASS)
+        ASK("take_types", jilqamur_end_take_types(end, text, len));
     return len;
 }
 

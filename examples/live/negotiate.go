@@ -75,7 +75,11 @@ func (p *peer) answer(offer string) (string, error) {
 	if err := p.restart(); err != nil {
 		return "", err
 	}
-	return p.with_transport(own, jilqamur.Passive)
+	answer, err := p.with_transport(own, jilqamur.Passive)
+	if err != nil {
+		return "", err
+	}
+	return answer, p.end.TakeTypes(answer) // streams go by what each section lists
 }
 
 // restart begins a new ICE session if the browser's offer does (RFC 8839, section 4.4.1.1.1).
@@ -132,6 +136,7 @@ func (p *peer) wanted() (sections []jilqamur.Section) {
 func (p *peer) accept(answer string) error {
 	err := p.end.AcceptBrowser(answer)
 	if err == nil {
+		_ = p.end.TakeTypes(answer) // streams go by what each section lists, if the browser's text is read as it is
 		return p.settle()
 	}
 	isAgreed := map[string]bool{}

@@ -7,13 +7,13 @@ is rejected: of port 0, without direction both ways, without lines of the transp
 Each other one has a direction that the offer and the request allow (RFC 3264 6.1), types of this section of the offer
 alone, in its order and with the meaning that they have there (RFC 3264 6.1): codec, profile, mode of packets, the type
 that they repair or add redundancy to, and feedback (RFC 4588 8.1, RFC 2198 5, RFC 4585 4.2); extensions of the offer
-alone (RFC 8285 6), and the transport's lines behind its name. One whose codecs an earlier section has under other types
-may only receive. What the end agreed on in a section is what its text lists. What an end is handed has each parameter
-that it knows, and no other (RFC 8866 6.15). An end's own offer has the sections of the last text in their places, except where
-the last exchange has port 0: there are the new ones, in order, and those that are left follow (RFC 3264 8.1, RFC 8829
-5.2.2). The version of `o=` is that of the last text where the two are the same, and
-the next one where they aren't (RFC 3264 8). Sources have the CNAME, and sections that send the tracks, that were given
-(RFC 7022, RFC 8830 2). Prints what isn't so, and ends with status 1 then. It shares no code with the project.
+alone (RFC 8285 6), and the transport's lines behind its name. One whose codecs an earlier section has under other
+types may only receive. What the end agreed on in a section is what its text lists. What an end is handed has each
+parameter that it knows, and no other (RFC 8866 6.15). An end's own offer has the sections of the last text in their
+places, except where the last exchange has port 0: there are the new ones, in order, and those that are left follow
+(RFC 3264 8.1, RFC 8829 5.2.2). The version of `o=` is that of the last text where the two are the same, and the next
+one where they aren't (RFC 3264 8). Sources have the CNAME, and sections that send the tracks, that were given (RFC
+7022, RFC 8830 2). Prints what isn't so, and ends with status 1 then. It shares no code with the project.
 """
 import re
 import sys

@@ -33,6 +33,7 @@ static void answer(jilqamur_end *end, uint8_t *text, size_t len)
                                    JILQAMUR_TEXT("x9cml/YzichV2+XlhiMu8g"), JILQAMUR_TEXT("sha-256"), digest,
                                    sizeof digest));
     check(jilqamur_end_text(end, text, MOST_TEXT, &len));
+    check(jilqamur_end_take_types(end, text, len)); /* streams go by what each section lists */
     printf("%.*s", (int)len, (const char *)text);
 }
 

@@ -377,6 +377,11 @@ static void browsers(void)
     check(jilqamur_end_accept_browser(&a, text, len));
     say_remote(&a);
     say_agreed(&a);
+    say("types", jilqamur_end_take_types(&a, JILQAMUR_TEXT("v=0\r\n")));
+    check(jilqamur_end_take_types(&a, JILQAMUR_TEXT(
+        "v=0\r\no=- 1 1 IN IP4 0.0.0.0\r\ns=-\r\nt=0 0\r\na=group:BUNDLE v\r\nm=video 9 UDP/TLS/RTP/SAVPF 96\r\n"
+        "c=IN IP4 0.0.0.0\r\na=mid:v\r\na=rtcp-mux\r\na=recvonly\r\na=rtpmap:96 VP8/90000\r\n")));
+    say_agreed(&a);
     check(jilqamur_end_close(&a));
     check(jilqamur_end_close(&b));
 }

@@ -67,6 +67,7 @@ static void of_closed(void)
     SAY(jilqamur_end_section(&end, JILQAMUR_TEXT("0"), false, true, true, &ssrc, 1));
     SAY(jilqamur_end_text(&end, bytes, 9, &size));
     SAY(jilqamur_end_request(&end, true, true, true, &ssrc, 1));
+    SAY(jilqamur_end_take_types(&end, datagram, 12));
     SAY(jilqamur_end_for_browser(&end, datagram, 12, 0, false, JILQAMUR_TEXT(""), JILQAMUR_TEXT(""), JILQAMUR_TEXT(""),
                                  datagram, 12));
     SAY(jilqamur_end_remote(&end, &remote));

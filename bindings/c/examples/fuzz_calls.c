@@ -523,6 +523,8 @@ static void of_texts(jilqamur_end *end)
         CALL(end_accept_browser, end, text.at, text.len);
         break;
     case 8:
+        if (!below(3))
+            CALL(end_take_types, end, text.at, text.len);
         if (CALL(end_for_browser, end, text.at, text.len, (uint8_t)below(4), flip(), ufrag.at, ufrag.len, password.at,
                  password.len, hash.at, hash.len, digest.at, digest.len) == JILQAMUR_OK)
             keep_text(end);

@@ -485,6 +485,13 @@ uint32_t jilqamur_end_answer(jilqamur_end *end, const uint8_t *offer, size_t len
  * JILQAMUR_NOT_CORRESPONDING, JILQAMUR_ROUND and JILQAMUR_NO_COMMON_ROW, or JILQAMUR_MEMORY, and the end stays. */
 uint32_t jilqamur_end_accept(jilqamur_end *end, const uint8_t *answer, size_t len);
 
+/* Takes the payload types of the agreed sections from a text, each from the section of its name: streams that are opened
+ * from then on have the types, those of retransmissions and those of redundancy that this section lists. Hand it what
+ * jilqamur_end_for_browser makes of an answer, and a browser's answer after jilqamur_end_accept_browser: a section may
+ * list fewer types than others. JILQAMUR_NOT_TEXT, JILQAMUR_NOT_MADE, JILQAMUR_TEXT_UNREADABLE or JILQAMUR_MEMORY, and
+ * nothing has changed. */
+uint32_t jilqamur_end_take_types(jilqamur_end *end, const uint8_t *text, size_t len);
+
 /* Gives a pending offer up. JILQAMUR_NOTHING if none is pending, JILQAMUR_NOT_MADE without an end. */
 uint32_t jilqamur_end_withdraw(jilqamur_end *end);
 

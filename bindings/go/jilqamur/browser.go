@@ -111,6 +111,15 @@ func (e *End) ForBrowser(own string, transport Transport) (string, error) {
 	return text(owned.handle)
 }
 
+// TakeTypes takes the payload types of the agreed sections from a text, each from the section of its name: streams that
+// are opened from then on have the types, those of retransmissions and those of redundancy that this section lists. Hand
+// it what [End.ForBrowser] makes of an answer, and a browser's answer after [End.AcceptBrowser]: a section may list fewer
+// types than others. It returns [ErrNotText], [ErrNotMade], [ErrTextUnreadable] or [ErrMemory].
+func (e *End) TakeTypes(said string) error {
+	text, size := placeOf(said)
+	return e.own().use(func(end *C.jilqamur_end) C.uint32_t { return C.jilqamur_end_take_types(end, text, size) })
+}
+
 // Remote is what the last text of a browser tells of its transport; without one nothing is told.
 func (e *End) Remote() (Remote, error) {
 	owned, err := e.own().lock()

@@ -5,6 +5,7 @@ import (
 	"errors"
 	"fmt"
 	"reflect"
+	"strings"
 	"sync"
 	"testing"
 )
@@ -171,6 +172,13 @@ func TestABrowserIsAnswered(t *testing.T) {
 	equal(t, must[Remote](t)(a.Remote()), Remote{Ufrag: "abcd", Password: transport.Password,
 		Fingerprint: "sha-256 AB:CD", Setup: Some(Passive), OwnSetup: Some(Active), Trickling: true, Lite: true})
 	equal(t, must[Remote](t)(b.Remote()).OwnSetup, Some(Passive))
+	equal(t, a.TakeTypes(answer), nil)
+	equal(t, must[[]AgreedSection](t)(a.AgreedSections())[0].Rows, []Row{opus})
+	equal(t, a.TakeTypes(strings.Replace(answer, "a=mid:0", "a=mid:1", 1)), nil)
+	none := strings.Replace(answer, "opus/48000/2", "none/48000/2", 1)
+	equal(t, a.TakeTypes(none), nil)
+	equal(t, len(must[[]AgreedSection](t)(a.AgreedSections())[0].Rows), 0)
+	refused(t, a.TakeTypes("v=0\r\n"), ErrTextUnreadable)
 	_, err := made(t, 3).AnswerBrowser(offer, SectionRequest{Reject: true})
 	refused(t, err, ErrNothingLeft)
 	_, err = b.ForBrowser(own, Transport{Setup: 9})

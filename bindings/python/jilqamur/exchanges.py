@@ -95,6 +95,14 @@ class Exchanges(UnitOwner):
             done(lib.end_for_browser(self._at, *text("own", own), u8("setup", setup), bool(is_lite), *given))
             return self._text()
 
+    def take_types(self, said: str) -> None:
+        """Takes the payload types of the agreed sections from a text, each from the section of its name: streams that
+        are opened from then on have the types, those of retransmissions and those of redundancy that this section
+        lists. Hand it what `for_browser` makes of an answer, and a browser's answer after `accept_browser`: a section
+        may list fewer types than others."""
+        with self._lock:
+            done(lib.end_take_types(self._at, *text("said", said)))
+
     def remote(self) -> Remote:
         """What the last text of a browser tells of its transport."""
         told = RemoteStruct()

@@ -66,6 +66,7 @@ CALLS: dict[str, list[Any]] = {
     "end_offer": [HANDLE],
     "end_answer": [HANDLE, *TEXT],
     "end_accept": [HANDLE, *TEXT],
+    "end_take_types": [HANDLE, *TEXT],
     "end_withdraw": [HANDLE],
     "end_text": [HANDLE, *OUT],
     "end_request": [HANDLE, c_bool, c_bool, c_bool, *SSRCS],

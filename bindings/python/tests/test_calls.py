@@ -202,6 +202,13 @@ class Ends(unittest.TestCase):
                          ("abcd", transport["password"], "sha-256 AB:CD", Setup.PASSIVE, True))
         self.assertEqual(a.agreed_sections()[0].ssrcs, (45,))
         self.assertEqual((remote.candidates, b.remote().own_setup), ((), Setup.PASSIVE))
+        a.take_types(answer)
+        self.assertEqual(len(a.agreed_sections()[0].rows), 1)
+        a.take_types(answer.replace("opus/48000/2", "none/48000/2"))
+        self.assertEqual(len(a.agreed_sections()[0].rows), 0)
+        with self.assertRaises(Refused) as raised:
+            a.take_types("v=0\r\n")
+        self.assertEqual(raised.exception.code, Code.TEXT_UNREADABLE)
 
     def test_an_offer_is_given_up(self) -> None:
         a, _ = agreed()

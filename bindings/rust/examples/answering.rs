@@ -58,7 +58,9 @@ impl Call {
         };
         let requests: Vec<SectionRequest<'_>> = sections(offer).map(request).collect();
         let answer = self.end.answer_browser(offer, &requests)?;
-        self.end.for_browser(&answer, &TRANSPORT)
+        let text = self.end.for_browser(&answer, &TRANSPORT)?;
+        self.end.take_types(&text)?; // streams go by what each section lists
+        Ok(text)
     }
 
     /// Opens the streams that were agreed: those that are open already go on.

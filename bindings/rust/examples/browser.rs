@@ -33,7 +33,9 @@ fn main() -> Result<(), Box<dyn std::error::Error>> {
         setup: Setup::Passive,
         is_lite: false,
     };
-    print!("{}", end.for_browser(&answer, &transport)?);
+    let text = end.for_browser(&answer, &transport)?;
+    end.take_types(&text)?; // streams go by what each section lists
+    print!("{text}");
     let remote = end.remote()?;
     println!("name {}", remote.ufrag.unwrap_or_default());
     println!("password {}", remote.password.unwrap_or_default());

@@ -634,6 +634,12 @@ fn browsers() -> Done {
     a.accept_browser(&answer)?;
     say_remote(&a)?;
     say_agreed(&a);
+    say("types", &a.take_types("v=0\r\n"));
+    a.take_types(
+        "v=0\r\no=- 1 1 IN IP4 0.0.0.0\r\ns=-\r\nt=0 0\r\na=group:BUNDLE v\r\nm=video 9 UDP/TLS/RTP/SAVPF 96\r\n\
+         c=IN IP4 0.0.0.0\r\na=mid:v\r\na=rtcp-mux\r\na=recvonly\r\na=rtpmap:96 VP8/90000\r\n",
+    )?;
+    say_agreed(&a);
     Ok(())
 }
 

@@ -216,6 +216,18 @@ impl End {
         done(unsafe { sys::jilqamur_end_accept_browser(self.0.raw(), answer.as_ptr(), answer.len()) })
     }
 
+    /// Takes the payload types of the agreed sections from a text, each from the section of its name: streams that are
+    /// opened from then on have the types, those of retransmissions and those of redundancy that this section lists.
+    /// Hand it what [`End::for_browser`] makes of an answer, and a browser's answer after [`End::accept_browser`]: a
+    /// section may list fewer types than others.
+    ///
+    /// # Errors
+    /// `NotMade`, `TextUnreadable` or `Memory`; nothing has changed.
+    pub fn take_types(&mut self, text: &str) -> Result<(), EndError> {
+        // SAFETY: the handle is open, and pointer and length are those of one slice.
+        done(unsafe { sys::jilqamur_end_take_types(self.0.raw(), text.as_ptr(), text.len()) })
+    }
+
     /// An offer's or an answer's text of this end, made one for the browser: what was taken out of the browser's offer
     /// is back in its place, rejected, and each other section has the lines of the transport. A section that is new in
     /// an offer has the first place that an earlier exchange left with port 0, or else follows after all places.

@@ -331,6 +331,7 @@ unsafe extern "C" {
     pub(crate) fn jilqamur_end_offer(end: *mut RawHandle) -> u32;
     pub(crate) fn jilqamur_end_answer(end: *mut RawHandle, offer: *const u8, len: usize) -> u32;
     pub(crate) fn jilqamur_end_accept(end: *mut RawHandle, answer: *const u8, len: usize) -> u32;
+    pub(crate) fn jilqamur_end_take_types(end: *mut RawHandle, text: *const u8, len: usize) -> u32;
     pub(crate) fn jilqamur_end_withdraw(end: *mut RawHandle) -> u32;
     pub(crate) fn jilqamur_end_text(end: *mut RawHandle, buffer: *mut u8, len: usize, needed: *mut usize) -> u32;
     pub(crate) fn jilqamur_end_request(

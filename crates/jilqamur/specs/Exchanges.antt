@@ -1,6 +1,8 @@
 -- What calls answer that exchange texts.
 use Rattle.std.specs.Prelude.{ℕ, ◌≡◌, ◌⊎◌, List, Some, None, is_some, if◌then◌else◌}
 use Rattle.sdp_formats_data.specs.PrintedSession.{sdp_text}
+use Rattle.rtp_media_exchange.specs.Reading.{IsUnread}
+use Rattle.rtp_media_exchange.specs.TakenTypes.{TakesTypes}
 use Rattle.rtp_media_exchange.specs.declared.errors.ExchangeError.{ExchangeError}
 use Rattle.rtp_media_exchange.specs.declared.errors.ExchangeError.TheVariants as error
 use Rattle.rtp_media_exchange.specs.Exchanges.{with_offer}
@@ -73,6 +75,14 @@ pub record Accepted (e : EndState) (answer : List ℕ) (after : EndState) : Type
 abbrev pub AnswersAccept : EndState → List ℕ → ℕ → EndState → Type 0
 AnswersAccept e answer result after =
     ((result ≡ ok) × Accepted e answer after) ⊎ IsRefusedAs e (RefusesAccept e.exchange answer) result after
+
+-- The agreed sections take their types from a text.
+pub record TypesTaken (e : EndState) (text : List ℕ) (after : EndState) : Type 0 where
+  pub takes : TakesTypes e.exchange text after.exchange
+  pub streams : after ≡ with_exchange e after.exchange
+
+abbrev pub AnswersTypes : EndState → List ℕ → ℕ → EndState → Type 0
+AnswersTypes e text result after = ((result ≡ ok) × TypesTaken e text after) ⊎ IsRefusedAs e (IsUnread text) result after
 
 -- A pending offer is given up.
 abbrev pub AnswersWithdraw : EndState → ℕ → EndState → Type 0

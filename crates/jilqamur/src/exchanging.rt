@@ -7,7 +7,7 @@ ghost use Rattle.jilqamur.specs.Handles.{AtObject};
 ghost use Rattle.jilqamur.specs.Answers.{AtEnd, WithText};
 ghost use Rattle.jilqamur.specs.HeldEnds.{behind_end, behind_text};
 ghost use Rattle.jilqamur.specs.Exchanges.{AnswersOffer, AnswersAnswer, AnswersAccept, AnswersWithdraw};
-ghost use Rattle.jilqamur.specs.Exchanges.{exchange_code};
+ghost use Rattle.jilqamur.specs.Exchanges.{AnswersTypes, exchange_code};
 ghost use Rattle.jilqamur.specs.Held.{end_in};
 
 use crate::codes;
@@ -133,6 +133,35 @@ pub extern "C" fn jilqamur_end_accept(end: &mut EndHandle, answer: &[u8]) -> u32
         return codes::NOT_MADE;
     };
     match end.accept(answer) {
+        Ok(()) => codes::OK,
+        Err(error) => exchange_code(&error),
+    }
+}
+
+/// Takes the payload types of the agreed sections from a text, each from the section of its name, and returns `OK`:
+/// streams that are opened from then on have the types that this section lists. `NOT_TEXT` for bytes that aren't UTF-8,
+/// `NOT_MADE` without an end, `TEXT_UNREADABLE`, or `MEMORY`; nothing then changes.
+#[unsafe(no_mangle)]
+pub extern "C" fn jilqamur_end_take_types(end: &mut EndHandle, text: &[u8]) -> u32
+    ensures answer { AtObject (end_in end.old) (end_in end.new) result
+        (λ p after. WithText text.now p.end after.end result
+        (λ e now. AnswersTypes e text.now result now)) }
+    ensures rest { AtObject (end_in end.old) (end_in end.new) result
+        (λ p after. after ≡ behind_end p after.end) }
+{
+    if !end.slot.is_open() {
+        return codes::CLOSED;
+    }
+    let Object::End(held) = end.slot.place.held() else {
+        unreachable!();
+    };
+    let Some(text) = text_in(text) else {
+        return codes::NOT_TEXT;
+    };
+    let Some(end) = &mut held.end else {
+        return codes::NOT_MADE;
+    };
+    match end.take_types(text) {
         Ok(()) => codes::OK,
         Err(error) => exchange_code(&error),
     }

@@ -98,7 +98,8 @@ use_with_transport t m = refl
 
 module _ (state : BrowserState) (t : Transport) where
   pub told_name : (m : MediaLine) → mid_of (told_section state t m) ≡ mid_of m
-  told_name m = identified_name state.identity (listed_for state.is_answering state.sections (section_with_transport t m))
+  told_name m =
+      identified_name state.identity (listed_for state.is_answering state.sections (section_with_transport t m))
       ∙ listed_name state.is_answering state.sections (section_with_transport t m) ∙ mid_same t m
 
   told_use : (m : MediaLine) → (told_section state t m).disabled ≡ m.disabled

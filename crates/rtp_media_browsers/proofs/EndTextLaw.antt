@@ -168,7 +168,8 @@ own_lines names (a ∷ as') h =
     let rest = own_lines names as' here.1 in
     record {
       session = and_from (stays_in_session a) (list_all stays_in_session as') one.0 rest.session;
-      groups = and_from (names_only names a) (list_all (names_only names) as') (no_group names a (off (is_bundle a) one.1))
+      groups = and_from (names_only names a) (list_all (names_only names) as')
+          (no_group names a (off (is_bundle a) one.1))
           rest.groups;
       bundles = (no_bundle names a (off (is_bundle a) one.1), rest.bundles);
     }

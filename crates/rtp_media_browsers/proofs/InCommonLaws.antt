@@ -226,9 +226,11 @@ answers_in_common offer state planned requests handed x wanted mid has passes (i
     let first = has.lacks.passes in
     let same = (first.says.1 passes.sdp [] passes.says.0).0 in
     let places = passes.planned.places ∙ ap (places_of requests) same ∙ sym first.planned.places in
-    let text = one_handed offer first.sdp (without state.sections (places_of requests first.sdp) (asked_of requests first.sdp)) handed
+    let text = one_handed offer first.sdp
+    (without state.sections (places_of requests first.sdp) (asked_of requests first.sdp)) handed
     has.lacks.handed
-    (subst (λ (s : Sdp). IsHanded offer s (without state.sections (places_of requests s) (asked_of requests s)) handed) same
+    (subst (λ (s : Sdp).
+    IsHanded offer s (without state.sections (places_of requests s) (asked_of requests s)) handed) same
     passes.handed) first.handed in
     let sections = one_reading has.lacks.handed has.lacks.sections refused.0 has.lacks.says
     (subst (λ t. SaysSections t refused.0) text refused.1) in

@@ -1,6 +1,6 @@
 -- Known parameters are read as they are alone.
-use Rattle.std.proofs.Common.{◌≡◌, ◌≢◌, ◌∙◌, ◌==◌, ◌||◌, ap, refl, subst, ℕ, Bool}
-use Rattle.std.proofs.Common.{true, false, not, cond, List, [], ◌∷◌, ◌++◌, filter}
+use Rattle.std.proofs.Common.{◌≡◌, ◌≢◌, ◌∙◌, ◌==◌, ◌||◌, ap, refl, subst, ℕ, Bool, true, false, not, cond, List, []}
+use Rattle.std.proofs.Common.{◌∷◌, ◌++◌, filter}
 use Rattle.std.proofs.Common.{Option, None, Some}
 use Rattle.std.proofs.lemmas.Grind.{flat_map-append}
 use Rattle.std.specs.List.{flat_map}
@@ -16,8 +16,8 @@ use Rattle.sdp_formats_values.specs.Params.{gives_level, pair_param, params_of}
 use Rattle.sdp_formats_values.specs.declared.pairs.Pair.{Pair}
 use Rattle.sdp_formats_values.specs.declared.param.FormatParam.{FormatParam}
 use Rattle.sdp_formats_values.specs.declared.param.FormatParam.TheVariants.{Unknown}
-use Rattle.rtp_media_browsers.specs.Known.{is_known, is_unknown, known_alone, known_in}
-use Rattle.rtp_media_browsers.specs.Known.{known_of, known_parameters, text_or}
+use Rattle.rtp_media_browsers.specs.Known.{is_known, is_unknown, known_alone, known_in, known_of, known_parameters}
+use Rattle.rtp_media_browsers.specs.Known.{text_or}
 use Rattle.rtp_media_browsers.specs.KnownLaws.{ReadsKnown}
 
 -- the parts of two texts with a semicolon between

@@ -4,8 +4,8 @@ use Rattle.std.proofs.Common.{List, [], ◌∷◌, length, Option, slice_get, ar
 use Rattle.rtp_media_sections.specs.Lines.{mid_of}
 use Rattle.sdp_formats_values.specs.MediaTypes.{is_media}
 use Rattle.sdp_formats_data.specs.declared.media.MediaLine.{MediaLine}
-use Rattle.rtp_media_browsers.specs.Places.{is_accepted, is_bundled_only, is_outside, is_taken}
-use Rattle.rtp_media_browsers.specs.Places.{left, place_of, places_from}
+use Rattle.rtp_media_browsers.specs.Places.{is_accepted, is_bundled_only, is_outside, is_taken, left, place_of}
+use Rattle.rtp_media_browsers.specs.Places.{places_from}
 use Rattle.rtp_media_browsers.specs.declared.state.Place.{Place}
 use Rattle.rtp_media_browsers.specs.declared.state.Place.TheVariants.{Kept}
 use Rattle.rtp_media_browsers.specs.declared.request.SectionRequest.{SectionRequest}

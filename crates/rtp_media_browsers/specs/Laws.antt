@@ -85,7 +85,8 @@ first state = record state { places = []; sections = []; identity = None }
 abbrev pub ComesBack : Type 0
 ComesBack = (state : BrowserState) (t : Transport) (requests : List SectionRequest) (sdp : Sdp) → IsEndText sdp
     → AllAccepted requests (length (for_browser (first state) t sdp).media_lines)
-    → without [] (places_of requests (for_browser (first state) t sdp)) (asked_of requests (for_browser (first state) t sdp))
+    → without [] (places_of requests (for_browser (first state) t sdp))
+    (asked_of requests (for_browser (first state) t sdp))
     ≡ sdp
 
 -- So is each section of any text.

@@ -76,4 +76,5 @@ is_own_line a = stays_in_session a && not (is_bundle a)
 -- What the offer or answer of an end with such a session says of these sections is a text as ends write it, the premise
 -- of `return_law`.
 abbrev pub EndsWriteEndTexts : Type 0
-EndsWriteEndTexts = (s : Session) (all : List Section) → IsTrue (list_all is_own_line s.attrs) → IsEndText (sdp_of s all)
+EndsWriteEndTexts = (s : Session) (all : List Section) → IsTrue (list_all is_own_line s.attrs)
+    → IsEndText (sdp_of s all)

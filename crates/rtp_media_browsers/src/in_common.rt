@@ -4,8 +4,8 @@ ghost use Rattle.std.specs.Prelude.{◌≡◌, ◌≢◌, ◌&&◌, ◌==◌, If
 ghost use Rattle.std.specs.List.{list_any};
 ghost use Rattle.rtp_media_browsers.specs.Calls.{RefusesOffer};
 ghost use Rattle.rtp_media_browsers.specs.InCommon.{AreInCommon, HasRows, Lacks, RefusesInCommon, Rejects, SaysToEnd};
-ghost use Rattle.rtp_media_browsers.specs.InCommon.{after_first, begins_with_named, has_named, is_answered};
-ghost use Rattle.rtp_media_browsers.specs.InCommon.{left_of, less_of};
+ghost use Rattle.rtp_media_browsers.specs.InCommon.{after_first, begins_with_named, has_named, is_answered, left_of};
+ghost use Rattle.rtp_media_browsers.specs.InCommon.{less_of};
 ghost use Rattle.rtp_media_browsers.specs.InCommon.{names_without, without_named};
 ghost use Rattle.rtp_media_browsers.specs.Tidied.{tidied};
 ghost use Rattle.rtp_media_exchange.specs.Refusals.{answers_none};

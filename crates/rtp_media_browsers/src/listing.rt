@@ -3,11 +3,11 @@
 ghost use Rattle.std.specs.Prelude.{◌≡◌, ◌++◌, IfOk, OnOk, filter, find};
 ghost use Rattle.std.specs.Option.{option_copied};
 ghost use Rattle.rtp_media_sections.specs.Answered.{has_pt};
-ghost use Rattle.rtp_media_browsers.specs.Listing.{both_give, fits, gives_feedback, has_feedback};
-ghost use Rattle.rtp_media_browsers.specs.Listing.{is_listed, is_of_source};
+ghost use Rattle.rtp_media_browsers.specs.Listing.{both_give, fits, gives_feedback, has_feedback, is_listed};
+ghost use Rattle.rtp_media_browsers.specs.Listing.{is_of_source};
 ghost use Rattle.rtp_media_browsers.specs.Listing.{is_other, is_other_type, is_same_type, linked_type, listed_for};
-ghost use Rattle.rtp_media_browsers.specs.Listing.{listed_row, row_for, row_listed, rows_among};
-ghost use Rattle.rtp_media_browsers.specs.Listing.{rows_listed, with_offered};
+ghost use Rattle.rtp_media_browsers.specs.Listing.{listed_row, row_for, row_listed, rows_among, rows_listed};
+ghost use Rattle.rtp_media_browsers.specs.Listing.{with_offered};
 ghost use Rattle.rtp_media_browsers.specs.Listing.{with_rows};
 
 use crate::following::{is_of_type, section_named};
