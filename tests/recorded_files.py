@@ -57,7 +57,7 @@ def replaced(counts, build, program):
         status, said = folder.run("--mkv", "pipe", "--force")
         is_pipe = (folder.path / "pipe").is_fifo()
         counts.check(f"a pipe stays, {build}", status == 1 and is_pipe and "no regular file" in said, said[-300:])
-        counts.same(f"no part is left, {build}", ["capture", NAME, "other"], folder.files())
+        counts.same(f"no part is left, {build}", sorted(["capture", NAME, "other"]), folder.files())
 
 
 def read_by_nobody(counts, build, program):
@@ -110,11 +110,11 @@ def first_frames(counts, build, program):
 
 
 def much_that_waits(counts, build, program):
-    """Packets of 60,000 bytes of a frame that never ends."""
-    frames = [plain(packet(number, 80, 102, 3000, b"\x7c\x05" + bytes(60_000))) for number in range(1000)]
-    status, said, _, memory, _ = ran(program, pcap_of(frames), [*ROWS, "--list"])
-    counts.check(f"much that waits is given up, {build}", "were given up" in said, said[-300:])
-    counts.check(f"much that waits is bounded, {build}", memory < 60_000_000, f"{memory / 1e6:.0f} MB")
+    """Packets of 60,000 bytes of a frame that never ends, 90 MB of them, within 48 MB of memory."""
+    frames = [plain(packet(number, 80, 102, 3000, b"\x7c\x05" + bytes(60_000))) for number in range(1500)]
+    status, said, *_ = ran(program, pcap_of(frames), [*ROWS, "--list"], 48_000_000)
+    counts.check(f"much that waits, {build}", status == 0 and "memory ran out" not in said, f"{status}: {said[-300:]}")
+    counts.check(f"it is given up, {build}", "were given up" in said, said[-300:])
 
 
 def ports(counts, build, program):
