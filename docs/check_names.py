@@ -10,7 +10,8 @@ the repository leads to a file, and to a heading of it. Each wrong body in tests
 text that its file has once. Counts on pages are those of the tree, if this script can tell, and premises that nothing
 meets those of docs/premises.py. A name is imported from the crate that defines it: only the crates for users hand names
 on, each straight from its crate, and only programs take them there. What calls of the library for C answer is numbered
-alike in its crate, its header, and the packages for Rust, Go and Python. Prints what is missing, and ends with status 1
+alike in its crate, its header, and the packages for Rust, Go and Python. All packages have one version, under which
+nothing of the released header is gone (bindings/dist/versions). Prints what is missing, and ends with status 1
 then.
 """
 import re
@@ -369,8 +370,15 @@ def differing_counts():
             yield f"docs/{page}: {number_on(page, pattern)} is said, and {counted} counted ({pattern})"
 
 
+def differing_versions():
+    """What bindings/dist/versions says of versions and of calls that are gone."""
+    said = subprocess.run([ROOT / "bindings/dist/versions"], capture_output=True, text=True)
+    yield from said.stdout.splitlines() if said.returncode in (0, 1) and not said.stderr else [said.stderr]
+
+
 found = [
     *differing_codes(),
+    *differing_versions(),
     *differing_picture(),
     *differing_crate_pages(),
     *differing_api_pages(),
