@@ -1,8 +1,8 @@
 """What of each target's files is proved and what isn't, for bindings/dist/release."""
 
-PROVED = ("Proved, by `rattle build`: each call of jilqamur.h does what its contract in crates/jilqamur/src says, whatever "
-          "bytes it is given, reads and writes no memory but its own and what it is given, and returns; for the code "
-          "before it is lowered to LLVM, on a machine with words of 64 bits and a stack that doesn't end.")
+PROVED = ("Proved, by `rattle build`: each call of jilqamur.h does what its contract in crates/jilqamur/src says, "
+          "whatever bytes it is given, reads and writes no memory but its own and what it is given, and returns; for "
+          "the code before it is lowered to LLVM, on a machine with words of 64 bits and a stack that doesn't end.")
 NEVER = "Nothing: no verdict of a proof was handed in when this was made. It is for trials alone."
 
 LOWERING = "that Rattle lowers the proved code to LLVM's language rightly"
@@ -25,14 +25,17 @@ TARGETS = {
     },
     "x86_64-w64-windows-gnu": {
         "retargeted": True, "built": [], "made": [LOWERING, RETARGET, CLANG],
-        "beside": [OWN_HEAP, "mingw's libgcc and the DLL that it links"], "tools": ["mingw-w64=NOASSERTION=NOASSERTION"],
+        "beside": [OWN_HEAP, "mingw's libgcc and the DLL that it links"],
+        "tools": ["mingw-w64=NOASSERTION=NOASSERTION"],
         "tried": "the stored runs under wine (bindings/targets/check windows)",
     },
     "wasm32": {
         "retargeted": True, "built": [],
-        "made": [LOWERING, RETARGET, CLANG, "Binaryen, which makes addresses of 32 bits (memory64-lowering), and optimizes"],
-        "beside": ["the heap of the module (bindings/targets/wasm_heap.c), heap.ll, and the kit's functions for numbers of "
-                   "128 bits", "the calls with 32-bit addresses, and the package for JavaScript (bindings/js)"],
+        "made": [LOWERING, RETARGET, CLANG,
+                 "Binaryen, which makes addresses of 32 bits (memory64-lowering), and optimizes"],
+        "beside": ["the heap of the module (bindings/targets/wasm_heap.c), heap.ll, and the kit's functions for "
+                   "numbers of 128 bits",
+                   "the calls with 32-bit addresses, and the package for JavaScript (bindings/js)"],
         "tools": ["binaryen=NOASSERTION=Apache-2.0"],
         "tried": "the package's tests in Node, and 10,000 random samples with the same bytes as the native library "
                  "(bindings/targets/check wasm)",
