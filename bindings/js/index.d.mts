@@ -2,6 +2,13 @@ import type { Answer, ArrivalFields, ExtensionIdsFields, Fault, HeaderFields, Pa
   RemoteFields,
   RowFields, SectionFields, SenderParamsFields, StreamFields, UnitFields, ValuesFields } from "./structs.mjs";
 
+declare global {
+  // Compilers before TypeScript 5.2 don't have it.
+  interface SymbolConstructor {
+    readonly dispose: unique symbol;
+  }
+}
+
 export type { Answer, Fault };
 export declare const VERSION: string;
 export declare const CODES: Readonly<Record<Answer, number>>;

@@ -8,7 +8,7 @@ const NAMES = Object.keys(CODES);
 const SCRATCH = 1 << 16;
 const RANGES = { u8: [0, 0xff], i8: [-128, 127], u16: [0, 0xffff], u32: [0, 0xffffffff], size: [0, 0x7fffffff] };
 const encoder = new TextEncoder();
-const decoder = new TextDecoder();
+const decoder = new TextDecoder("utf-8", { ignoreBOM: true });
 
 /** A call that was refused: its code, that code's name, and what it was about, as far as the package can tell. */
 export class Refused extends Error {

@@ -215,6 +215,7 @@ test("a forwarder numbers packets of two sources as one stream", () => {
 test("a session text's faulty line is told", () => {
   assert.deepEqual(library.faultyLine("v=0\r\no=bad\r\n"), { line: "o=bad", number: 2, fault: "ORIGIN",
     words: "no valid o=" });
+  assert.equal(library.faultyLine("\ufeffv=0\r\n").line, "\ufeffv=0");
   assert.throws(() => library.faultyLine("\ud800"), TypeError);
   assert.equal(VERSION, "0.10.0");
 });
