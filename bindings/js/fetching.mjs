@@ -36,12 +36,27 @@ export function* unitsOf(poll) {
   }
 }
 
-/** So many datagrams, which `call` copies by their places. */
+const BLOCK = 1 << 15;
+
+/** So many datagrams, which `call` copies by their places. Those that fit one block of memory are parts of one. */
 export function datagramsOf(memory, count, call) {
-  return Array.from({ length: count }, (_, index) => {
+  const found = [];
+  while (found.length < count) {
     memory.begin();
-    return memory.fetched((at, len, needed) => call(index, at, len, needed));
-  });
+    const block = memory.room(BLOCK), needed = memory.room(8), ends = [];
+    let used = 0;
+    while (found.length + ends.length < count) {
+      const code = call(found.length + ends.length, block + used, BLOCK - used, needed);
+      if (code === CODES.TOO_SMALL) break;
+      done(code);
+      used += memory.u64(needed);
+      ends.push(used);
+    }
+    if (ends.length === 0) found.push(memory.fetched((...words) => call(found.length, ...words)));
+    const copied = memory.u8.slice(block, block + used);
+    ends.forEach((end, index) => found.push(copied.subarray(ends[index - 1] ?? 0, end)));
+  }
+  return found;
 }
 
 /** The numbers of 64 bits that a call tells. */

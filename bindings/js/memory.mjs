@@ -144,6 +144,7 @@ export class Memory {
 
   /** Place and length of bytes or a text. */
   bytes(given, name = "bytes") {
+    if (given === "") return [this.#base, 0];
     const it = typeof given === "string" ? encoder.encode(given) : given;
     if (!(it instanceof Uint8Array)) throw new TypeError(`${name} is no Uint8Array`);
     const at = this.room(Math.max(it.length, 1));
