@@ -7,7 +7,7 @@
 
 #include "jilqamur.h"
 
-enum { HANDLES = 3, MOST_TEXT = 1 << 14, TEXTS = 6, ANSWERS = JILQAMUR_NO_PAYLOAD + 1, MOST_CALLS = 84 };
+enum { HANDLES = 3, MOST_TEXT = 1 << 14, TEXTS = 6, ANSWERS = JILQAMUR_NO_PAYLOAD + 1, MOST_CALLS = 89 };
 
 static jilqamur_window windows[HANDLES];
 static jilqamur_packetizer packetizers[HANDLES];
@@ -54,7 +54,7 @@ static void must(bool holds, const char *what)
 static uint32_t heard(const char *name, uint32_t answer)
 {
     size_t at = 0;
-    while (calls[at].name && strcmp(calls[at].name, name) != 0)
+    while (at < MOST_CALLS && calls[at].name && strcmp(calls[at].name, name) != 0)
         at++;
     must(at < MOST_CALLS && answer < ANSWERS, name);
     calls[at].name = name;

@@ -132,6 +132,8 @@ func TestWhatAReceiverMissesAndGivesUp(t *testing.T) {
 	push(3, 3, 3, 3)
 	equal(t, must[*Unit](t)(receiver.Poll()).First, uint64(1))
 	equal(t, must[[]uint64](t)(receiver.Missing()), []uint64{2})
+	equal(t, receiver.KeepWithin(3), nil)
+	equal(t, must[[]uint64](t)(receiver.Missing()), []uint64{2})
 	equal(t, receiver.KeepWithin(2), nil)
 	equal(t, must[[]uint64](t)(receiver.Missing()), []uint64{})
 	push(5, 5)

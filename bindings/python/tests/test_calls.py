@@ -129,6 +129,8 @@ class Codecs(unittest.TestCase):
             receiver.push(low, 0, False, bytes([low] * 3))
         self.assertEqual([unit.first for unit in receiver.units()], [1])
         self.assertEqual(receiver.missing(), [2])
+        receiver.keep_within(3)
+        self.assertEqual(receiver.missing(), [2])
         receiver.keep_within(2)
         self.assertEqual(receiver.missing(), [])
         receiver.push(5, 0, False, b"\x05")

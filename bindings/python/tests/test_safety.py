@@ -121,7 +121,8 @@ class Widths(unittest.TestCase):
     def test_forwarders(self) -> None:
         self.check("first", 64, Forwarder)
         forwarder = Forwarder(1)
-        for call in (lambda *given: forwarder.switch(*given, 1), forwarder.place, forwarder.forward):
+        for call in (lambda *given: forwarder.switch(*given, 1), forwarder.place,
+                     lambda *given: forwarder.forward(*given, True)):
             self.check("source", 64, lambda n: call(n, 1, 1))
             self.check("number", 64, lambda n: call(1, n, 1))
             self.check("timestamp", 32, lambda n: call(1, 1, n))
