@@ -155,7 +155,7 @@ class Maker:
             return makers[name]()
         if name in ("datagram", "sample", "payload", "behind", "digest"):
             return self.data()
-        if name in ("offer", "answer", "own", "session") and not (name == "session" and self.random.random() < 0.5):
+        if name in ("offer", "answer", "own", "said") or name == "session" and self.random.random() < 0.5:
             return self.text()
         return self.number({"low": 0xffff, "sequence_number": 0xffff, "picture_id": 0x7fff,
                             "timestamp": 0xffffffff, "at": 0xffffffff}.get(name, (1 << 64) - 1))
