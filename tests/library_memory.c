@@ -123,7 +123,6 @@ static void streams(void)
     ASK("receiver_push", jilqamur_receiver_push(&receiver, 1, 0, true, payload, sizeof payload, &number));
     ASK("receiver_push", jilqamur_receiver_push(&receiver, 9, 0, true, payload, sizeof payload, &number));
     uint64_t missing[9];
-    size_t count = 0;
     ASK("receiver_missing", jilqamur_receiver_missing(&receiver, missing, 9, &count));
     say("missing: %u\n", (unsigned)count);
     ASK("receiver_poll", jilqamur_receiver_poll(&receiver));
