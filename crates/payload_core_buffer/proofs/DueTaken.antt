@@ -1,23 +1,20 @@
 -- The frame that is due, taken out of a queue that was looked through for it.
 use Rattle.std.proofs.Common.{◌≡◌, ℕ, ◌<◌, ◌≤◌, sym, ◌∙◌, ap, ap₂, subst, arith, List, length}
-use Rattle.std.specs.Prelude.{◌-◌, Option, Some, Ok}
+use Rattle.std.specs.Prelude.{Option, Some, Ok}
 use Rattle.payload_core_base.specs.Format.{Format, Fragment}
-use Rattle.payload_core_base.specs.declared.extra.CodecExtra.{CodecExtra}
-use Rattle.payload_core_buffer.specs.Frames.{IsFrame, due_frame, number_at, packet_at, packets_between, time_at}
+use Rattle.payload_core_buffer.specs.Frames.{IsFrame, due_frame, packets_between}
 use Rattle.payload_core_buffer.specs.Metas.{metas_of_unit}
 use Rattle.payload_core_buffer.specs.Packets.{metas_of, packets_of}
 use Rattle.payload_core_buffer.specs.Pops.{PopState, pop_state}
 use Rattle.payload_core_buffer.specs.Steps.{Answer, AnswersBy, MediaUnit, TellsOf, frame_step, packets_of_due, pop_step}
-use Rattle.payload_core_buffer.specs.Steps.{ready, unit_from, unit_of}
+use Rattle.payload_core_buffer.specs.Steps.{ready, run_among, unit_from, unit_of}
 use Rattle.payload_core_buffer.specs.declared.depacketized.Depacketized.{Depacketized}
 use Rattle.payload_core_buffer.specs.declared.frame.Frame.{Frame}
 use Rattle.payload_core_buffer.specs.declared.held.Held.{Held}
 use Rattle.payload_core_buffer.specs.declared.held.RtpMeta.{RtpMeta}
-use Rattle.rtp_wire.specs.declared.values.ExtensionValues.{ExtensionValues}
 use Rattle.payload_core_buffer.proofs.DueLemmas.{due_frames}
-use Rattle.payload_core_buffer.proofs.FrameEnds.{unit-is}
 use Rattle.payload_core_buffer.proofs.FrameLemmas.{length_packets}
-use Rattle.payload_core_buffer.proofs.Stepping.{pops-due}
+use Rattle.payload_core_buffer.proofs.Stepping.{answered-unit, pops-due}
 
 module _ (format : Format) (cutoff : Option ℕ) (fragment : Fragment) (hold_back : ℕ) (hs ks : List Held) (f : Frame)
     (same : ks ≡ hs) (due : Some f ≡ due_frame format cutoff hold_back (packets_of hs)) where
@@ -39,51 +36,22 @@ module _ (format : Format) (cutoff : Option ℕ) (fragment : Fragment) (hold_bac
   popped new a is = pops-due format hold_back (state hs) new (Some f) a (sym due)
       (subst (λ (xs : List Held). AnswersBy (frame_step format (state xs) (Some f)) new a) same is)
 
-  module _ (new : PopState) (bytes : List ℕ) (extra : CodecExtra)
-      (is : AnswersBy (frame_step format (state ks) (Some f)) new
-      (Some (Ok (Some (unit_from (metas_of (packets_between (packets_of ks) f)) bytes extra))))) where
-    as-unit : (u : MediaUnit) → u ≡ unit_from (metas_of (packets_between (packets_of ks) f)) bytes extra
-        → AnswersBy (pop_step format hold_back (state hs)) new (Some (Ok (Some u)))
-    as-unit u e = popped new (Some (Ok (Some u)))
-        (subst (λ (x : MediaUnit). AnswersBy (frame_step format (state ks) (Some f)) new (Some (Ok (Some x))))
-        (sym e) is)
-
-    -- by what is known of its first and its last packet
-    pub popped-ends : (first last time : ℕ) (values : ExtensionValues) → first ≡ number_at (packets_of ks) f.start
-        → last ≡ number_at (packets_of ks) (f.end - 1) → time ≡ time_at (packets_of ks) f.start
-        → values ≡ (packet_at (packets_of ks) (f.end - 1)).meta.ext_vals
-        → AnswersBy (pop_step format hold_back (state hs)) new (Some (Ok (Some (record {
-          first = first;
-          last = last;
-          time = time;
-          values = values;
-          bytes = bytes;
-          extra = extra;
-        }))))
-    popped-ends first last time values is-first is-last is-time is-values = as-unit (record {
-      first = first;
-      last = last;
-      time = time;
-      values = values;
-      bytes = bytes;
-      extra = extra;
-    })
-        ((λ i. record {
-          first = is-first i;
-          last = is-last i;
-          time = is-time i;
-          values = is-values i;
-          bytes = bytes;
-          extra = extra;
-        }) ∙ sym (unit-is (packets_of ks) f is-frame.not_empty is-frame.in_range bytes extra))
-
-    -- by what is known of all its packets
-    pub popped-metas : (d : Depacketized) → d.bytes.items ≡ bytes → d.extra ≡ extra
-        → metas_of_unit d ≡ metas_of (packets_between (packets_of ks) f)
-        → AnswersBy (pop_step format hold_back (state hs)) new (Some (Ok (Some (unit_of d))))
-    popped-metas d read told known = as-unit (unit_of d) (
-        ap (λ (ms : List RtpMeta). unit_from ms d.bytes.items d.extra) known
-        ∙ ap₂ (unit_from (metas_of (packets_between (packets_of ks) f))) read told)
+  -- a unit with what is known of all its packets
+  pub popped-metas : (new : PopState) (u : MediaUnit)
+      → AnswersBy (frame_step format (state ks) (Some f)) new (Some (Ok (Some u)))
+      → (d : Depacketized) → d.bytes.items ≡ u.bytes → d.extra ≡ u.extra
+      → metas_of_unit d ≡ metas_of (packets_between (packets_of ks) f)
+      → AnswersBy (pop_step format hold_back (state hs)) new (Some (Ok (Some (unit_of d))))
+  popped-metas new u is d read told known =
+      let metas = metas_of (packets_between (packets_of ks) f) in
+      let run = run_among format fragment (packets_of ks) f in
+      let same_unit : unit_of d ≡ u =
+      ap (λ (ms : List RtpMeta). unit_from ms d.bytes.items d.extra) known
+      ∙ ap₂ (unit_from metas) read told
+      ∙ sym (answered-unit run.fault metas run.written run.extra u is.0) in
+      popped new (Some (Ok (Some (unit_of d))))
+      (subst (λ (x : MediaUnit). AnswersBy (frame_step format (state ks) (Some f)) new (Some (Ok (Some x))))
+      (sym same_unit) is)
 
   pub tells : (d : Depacketized) → metas_of_unit d ≡ metas_of (packets_between (packets_of ks) f)
       → TellsOf (ready format hold_back (state hs)) (Some d)

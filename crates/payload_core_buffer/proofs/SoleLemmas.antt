@@ -6,6 +6,7 @@ use Rattle.payload_core_buffer.specs.Frames.{packets_between}
 use Rattle.payload_core_buffer.specs.Packets.{packets_of}
 use Rattle.payload_core_buffer.specs.Pops.{IsReadAs, no_extra, run_of}
 use Rattle.payload_core_buffer.specs.Slots.{slot_at}
+use Rattle.payload_core_buffer.specs.Steps.{sole_unit, unit_between}
 use Rattle.payload_core_buffer.specs.declared.frame.Frame.{Frame}
 use Rattle.payload_core_buffer.specs.declared.held.Held.{Held}
 
@@ -33,3 +34,10 @@ sole_read format plain fragment (h ∷ hs) f s e lt some =
     subst (λ (g : Frame).
     IsReadAs (run_of format fragment (packets_between (packets_of (h ∷ hs)) g)) h.payload no_extra fragment)
     (sym (frame_is f s e)) (read_one format plain fragment h.payload some)
+
+pub sole_is : (hs : List Held) (f : Frame) → f.start ≡ 0 → f.end ≡ 1 → 0 < length hs
+    → sole_unit (slot_at hs 0) ≡ unit_between (packets_of hs) f (slot_at hs 0).payload no_extra
+sole_is [] f s e lt = absurd (omega (arith, lt))
+sole_is (h ∷ hs) f s e lt =
+    subst (λ (g : Frame). sole_unit h ≡ unit_between (packets_of (h ∷ hs)) g h.payload no_extra)
+    (sym (frame_is f s e)) refl

@@ -12,8 +12,10 @@ use Rattle.payload_core_buffer.specs.Frames.{IsFrame, due_frame, number_at, pack
 use Rattle.payload_core_buffer.specs.Packets.{Packet, metas_of}
 use Rattle.payload_core_buffer.specs.Pops.{FaultsAs, IsReadAs, PopState, pop_state, run_of}
 use Rattle.payload_core_buffer.specs.Steps.{Answer, AnswersBy, MediaUnit, PopsBy, answer_among, answer_by, as_answer}
-use Rattle.payload_core_buffer.specs.Steps.{as_refusal, frame_step, kept_in, pop_step, unit_from}
+use Rattle.payload_core_buffer.specs.Steps.{as_refusal, frame_step, kept_in, pop_step, unit_between, unit_from}
 use Rattle.payload_core_buffer.specs.declared.frame.Frame.{Frame}
+use Rattle.payload_core_buffer.specs.declared.held.RtpMeta.{RtpMeta}
+use Rattle.payload_core_buffer.proofs.FrameEnds.{unit-of-frame}
 use Rattle.payload_core_buffer.proofs.DueLemmas.{due_frames}
 
 pub other : (e : PacketError) → e ≢ lacks.Memory → as_refusal e ≡ Some (Err e)
@@ -42,6 +44,14 @@ module _ (format : Format) (old new : PopState) (f : Frame) where
       behind read.fragment,
     )
 
+    -- as the unit of its first and its last packet
+    pub taken-as : (bytes : List ℕ) (extra : CodecExtra) (u : MediaUnit) → u ≡ unit_between old.held f bytes extra
+        → IsFrame format old.held f → IsReadAs run bytes extra new.fragment
+        → AnswersBy (frame_step format old (Some f)) new (Some (Ok (Some u)))
+    taken-as bytes extra u e frame read =
+        subst (λ (x : MediaUnit). AnswersBy (frame_step format old (Some f)) new (Some (Ok (Some x))))
+        (unit-of-frame format old.held f bytes extra frame ∙ sym e) (taken bytes extra read)
+
     pub refused : (e : PacketError) → e ≢ lacks.Memory → FaultsAs run e new.fragment
         → AnswersBy (frame_step format old (Some f)) new (as_refusal e)
     refused e not fault = rw (other e not) (
@@ -49,6 +59,19 @@ module _ (format : Format) (old new : PopState) (f : Frame) where
           fault.fault),
       behind fault.fragment,
     )
+
+-- a unit that is answered is that of the packets' metadata
+abbrev unit_in : MediaUnit → Answer → MediaUnit
+unit_in u (Ok (Some v)) = v
+unit_in u (Ok None) = u
+unit_in u (Err e) = u
+
+pub answered-unit : (o : Option PacketError) (metas : List RtpMeta) (bytes : List ℕ) (extra : CodecExtra)
+    (u : MediaUnit) → Ok (Some u) ≡ answer_by o metas bytes extra → u ≡ unit_from metas u.bytes u.extra
+answered-unit None metas bytes extra u e =
+    let is : u ≡ unit_from metas bytes extra = ap (unit_in u) e in
+    is ∙ sym (ap₂ (unit_from metas) (ap (λ (v : MediaUnit). v.bytes) is) (ap (λ (v : MediaUnit). v.extra) is))
+answered-unit (Some err) metas bytes extra u e = cc
 
 -- before a frame is read
 pub unread : (format : Format) (s : PopState) (f : Frame) → IsFrame format s.held f

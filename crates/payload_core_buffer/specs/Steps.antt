@@ -8,9 +8,10 @@ use Rattle.payload_core_buffer.specs.Buffered.{Buffered}
 use Rattle.payload_core_buffer.specs.Frames.{due_frame, meta_at, number_at, packet_at, packets_between}
 use Rattle.payload_core_buffer.specs.Metas.{metas_of_unit}
 use Rattle.payload_core_buffer.specs.Packets.{Packet, metas_of}
-use Rattle.payload_core_buffer.specs.Pops.{PopState, ReadsPart, pop_state, run_of}
+use Rattle.payload_core_buffer.specs.Pops.{PopState, ReadsPart, no_extra, pop_state, run_of}
 use Rattle.payload_core_buffer.specs.declared.depacketized.Depacketized.{Depacketized}
 use Rattle.payload_core_buffer.specs.declared.frame.Frame.{Frame}
+use Rattle.payload_core_buffer.specs.declared.held.Held.{Held}
 use Rattle.payload_core_buffer.specs.declared.held.RtpMeta.{RtpMeta}
 use Rattle.rtp_wire.specs.declared.values.ExtensionValues.{ExtensionValues}
 
@@ -127,6 +128,17 @@ unit_between ps f bytes extra = record {
   values = (packet_at ps (f.end - 1)).meta.ext_vals;
   bytes = bytes;
   extra = extra;
+}
+
+-- The unit of a packet that is one as it is.
+abbrev pub sole_unit : Held → MediaUnit
+sole_unit h = record {
+  first = h.meta.seq_no;
+  last = h.meta.seq_no;
+  time = h.meta.time;
+  values = h.meta.ext_vals;
+  bytes = h.payload;
+  extra = no_extra;
 }
 
 -- A refusal as an answer, unless memory ran out.

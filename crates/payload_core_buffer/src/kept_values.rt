@@ -30,6 +30,7 @@ impl Model for KeptValues {
 
 impl KeptValues {
     /// No values.
+    #[inline]
     pub fn none() -> Self
         ensures { result ≡ absent }
     {

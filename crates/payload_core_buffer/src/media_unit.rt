@@ -3,6 +3,7 @@
 ghost use Rattle.std.specs.Prelude.{◌≡◌};
 
 use crate::kept_values::KeptValues;
+use crate::run::Read;
 use payload_core_base::CodecExtra;
 use rtp_wire::{ExtensionValues, SeqNo};
 use std::marker::Model;
@@ -104,5 +105,20 @@ impl Unit {
             extra: _,
         } = self;
         bytes
+    }
+    /// Its bytes and its codec's data, without a copy.
+    pub(crate) fn into_read(self) -> Read
+        ensures bytes { result.bytes.items ≡ self.bytes }
+        ensures extra { result.extra ≡ self.extra }
+    {
+        let Unit {
+            bytes,
+            time: _,
+            ext_vals: _,
+            first: _,
+            last: _,
+            extra,
+        } = self;
+        Read { bytes, extra }
     }
 }

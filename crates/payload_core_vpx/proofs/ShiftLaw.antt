@@ -3,8 +3,8 @@ use Rattle.std.proofs.Common.{◌≡◌, ℕ, ◌+◌, ◌-◌, ◌*◌, ◌%◌
 use Rattle.std.proofs.Common.{None, Some, Ok, if◌then◌else◌, refl, sym, ap, subst, ◌∙◌, arith}
 use Rattle.std.specs.Prelude.{slice_index}
 use Rattle.std.proofs.Math.Nat.{add-mod-mod, add-mod_right}
-use Rattle.payload_core_vpx.specs.Vp8Descriptor.{described_in, key_idx_in, key_place, layout_size, parsed, picture_id_in}
-use Rattle.payload_core_vpx.specs.Vp8Descriptor.{shape_of, tl0_pic_idx_in, tl0_place}
+use Rattle.payload_core_vpx.specs.Vp8Descriptor.{described_in, key_idx_in, key_place, layout_size, parsed}
+use Rattle.payload_core_vpx.specs.Vp8Descriptor.{picture_id_in, shape_of, tl0_pic_idx_in, tl0_place}
 use Rattle.payload_core_vpx.specs.Vp8PatchLaw.{ChangesIdsOnly, PatchHolds}
 use Rattle.payload_core_vpx.specs.Vp8Patches.{key_idx_refusal, max_picture_id, patch_of, picture_id_refusal}
 use Rattle.payload_core_vpx.specs.Vp8Patches.{refusal_of_build, tl0_pic_idx_refusal}

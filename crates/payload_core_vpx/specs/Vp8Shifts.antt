@@ -60,4 +60,5 @@ MovesLaw = (s : Vp8Shift) (payload : List ℕ) (d : Vp8Descriptor) → slice_ind
 abbrev pub ContinuesLaw : Type 0
 ContinuesLaw = (size last first id : ℕ) → first < size → id < size →
     (moved size (shift_after size (Some last) (Some first)) (Some first) ≡ Some ((last + 1) % size))
-    × (moved size (shift_after size (Some last) (Some first)) (Some id) ≡ Some ((last + 1 + (id + (size - first))) % size))
+    × (moved size (shift_after size (Some last) (Some first)) (Some id)
+    ≡ Some ((last + 1 + (id + (size - first))) % size))

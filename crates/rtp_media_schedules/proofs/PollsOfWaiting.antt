@@ -104,7 +104,7 @@ module _ (format : Format) (sender : Sender) (first count : ℕ) (fits : first +
             | inl less ↦ inr less
             | inr few ↦
                 let both : None ≡ Some fr =
-                sym (due-waits format sender first count 0 fits past next f fs s is.held is.cutoff sent frames end few e)
-                ∙ some in
+                sym (due-waits format sender first count 0 fits past next f fs s is.held is.cutoff sent frames end few
+                e) ∙ some in
                 absurd cc
           ]

@@ -12,7 +12,8 @@ with_test q y above ys = if above && q y then y ∷ ys else ys
 stepped : (q : ℕ → Bool) (last a n : ℕ) (b : Bool) → nat_lt last a ≡ b
     → filter (λ y. nat_lt last y && q y) (range_with_len a (suc n))
     ≡ with_test q a b (filter (λ y. nat_lt last y && q y) (range_with_len (a + 1) n))
-stepped q last a n b is = ap (λ (t : Bool). with_test q a t (filter (λ y. nat_lt last y && q y) (range_with_len (a + 1) n))) is
+stepped q last a n b is =
+    ap (λ (t : Bool). with_test q a t (filter (λ y. nat_lt last y && q y) (range_with_len (a + 1) n))) is
 
 all : (q : ℕ → Bool) (last a n : ℕ) → last < a → filter (λ y. nat_lt last y && q y) (range_with_len a n)
     ≡ filter q (range_with_len a n)
@@ -24,12 +25,13 @@ rest : (q : ℕ → Bool) (last a n : ℕ) → a ≤ last → filter (λ y. nat_
     ≡ filter q (range_with_len (last + 1) (a + n - (last + 1)))
 rest q last a zero le = let none : a + 0 - (last + 1) ≡ 0 = omega (arith, le) in
     sym (ap (λ k. filter q (range_with_len (last + 1) k)) none)
-rest q last a (suc n) le = elim (nat_lt last (a + 1)) as (λ b. nat_lt last (a + 1) ≡ b → filter (λ y. nat_lt last y && q y)
-    (range_with_len a (suc n)) ≡ filter q (range_with_len (last + 1) (a + suc n - (last + 1)))) [
+rest q last a (suc n) le = elim (nat_lt last (a + 1)) as (λ b. nat_lt last (a + 1) ≡ b
+    → filter (λ y. nat_lt last y && q y) (range_with_len a (suc n)) ≡ filter q (range_with_len (last + 1) (a + suc n - (last + 1)))) [
       | true ↦ λ is. let here : a ≡ last = grind (arith, is, le) in
           let left : a + suc n - (last + 1) ≡ n = omega (arith, here) in
           stepped q last a n false (grind (arith, le)) ∙ all q last (a + 1) n (grind (arith, is))
-          ∙ ap (λ k. filter q (range_with_len (k + 1) n)) here ∙ sym (ap (λ k. filter q (range_with_len (last + 1) k)) left)
+          ∙ ap (λ k. filter q (range_with_len (k + 1) n)) here
+          ∙ sym (ap (λ k. filter q (range_with_len (last + 1) k)) left)
       | false ↦ λ is. let left : a + 1 + n - (last + 1) ≡ a + suc n - (last + 1) = omega arith in
           stepped q last a n false (grind (arith, le)) ∙ rest q last (a + 1) n (grind (arith, is))
           ∙ ap (λ k. filter q (range_with_len (last + 1) k)) left

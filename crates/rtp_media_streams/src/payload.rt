@@ -38,6 +38,7 @@ fn primary_of(blocks: RedBlocks<'_>, pt: Pt) -> Option<&[u8]>
 }
 
 /// The payload itself, or under the RED type its primary payload, if it has the other type (RFC 2198).
+#[inline]
 fn unwrapped<'a>(types: &PayloadTypes, pt: Pt, payload: &'a [u8]) -> Option<&'a [u8]>
     ensures { MatchOption result (unwrapped types.now pt payload.now ≡ None)
         (λ media. unwrapped types.now pt payload.now ≡ Some media.now) }
@@ -54,6 +55,7 @@ fn unwrapped<'a>(types: &PayloadTypes, pt: Pt, payload: &'a [u8]) -> Option<&'a 
 /// What a payload without padding carries: 16 bits of a sequence number, and the length of the
 /// payload at its end that belongs to it. A plain datagram carries its payload under its own
 /// number, a retransmission the original payload under the original number.
+#[inline]
 fn carried(
     ssrc: Ssrc,
     types: &PayloadTypes,
@@ -83,6 +85,7 @@ fn carried(
 /// # Conditions
 ///
 /// The header was read from the datagram, and is no longer than it.
+#[inline]
 pub fn locate_payload(
     ssrc: Ssrc,
     types: &PayloadTypes,

@@ -25,7 +25,7 @@ use crate::row_format::RowFormat;
 use crate::types::PayloadTypes;
 use h26x_payload::{CodecDepacketizer, NotBoxed};
 use payload_core_base::{Depacketizer, PacketError};
-use payload_core_buffer::{DepacketizingBuffer, HeldMeta, KeptValues, RtpMeta, Unit};
+use payload_core_buffer::{DepacketizingBuffer, HeldMeta, KeptValues, Unit};
 use rtp_wire::{
     ExtensionMap, ExtensionValues, Pt, RtpHeader, SeqNo, SeqNoWindow, Ssrc, extend_u16,
 };
@@ -66,7 +66,8 @@ pub struct Placed {
 
 impl Placed {
     /// What is held of it under a number, with these values.
-    fn meta(&self, number: SeqNo, ext_vals: ExtensionValues) -> RtpMeta
+    #[inline]
+    fn meta(&self, number: SeqNo, ext_vals: KeptValues) -> HeldMeta
         ensures { result ≡ record {
           seq_no = number;
           time = self.now.time;
@@ -74,7 +75,7 @@ impl Placed {
           ext_vals = ext_vals;
         } }
     {
-        RtpMeta {
+        HeldMeta {
             seq_no: number,
             time: self.time,
             marker: self.marker,
@@ -156,6 +157,7 @@ impl Model for ReceivingStream {
 }
 
 /// The number that these 16 bits stand for; before the first number they stand for themselves.
+#[inline]
 fn number_of(window: &Option<SeqNoWindow>, low: u16) -> SeqNo
     ensures { result ≡ widened (greatest_in window.now) low }
 {
@@ -166,6 +168,7 @@ fn number_of(window: &Option<SeqNoWindow>, low: u16) -> SeqNo
 }
 
 /// Whether a number is new; the first one is.
+#[inline]
 fn accepts(window: &Option<SeqNoWindow>, number: SeqNo) -> bool
     ensures { result ≡ is_accepted window.now number }
 {
@@ -176,6 +179,7 @@ fn accepts(window: &Option<SeqNoWindow>, number: SeqNo) -> bool
 }
 
 /// Records a number; the first one makes the window.
+#[inline]
 fn record(window: &mut Option<SeqNoWindow>, number: SeqNo)
     ensures { window.new ≡ Some (recorded_in window.old number) }
 {
@@ -187,28 +191,8 @@ fn record(window: &mut Option<SeqNoWindow>, number: SeqNo)
 
 /// Holds a part of these bytes as a datagram's payload under a number; the only refusal is lack of memory, which hands
 /// the bytes back.
+#[inline]
 fn hold(
-    buffer: &mut DepacketizingBuffer<CodecDepacketizer<NotBoxed>>,
-    meta: RtpMeta,
-    bytes: Vec<u8>,
-    start: usize,
-    end: usize,
-) -> Result<(), AllocFailed<Vec<u8>>>
-    requires in_order { start ≤ end }
-    requires within { end ≤ vec_len bytes }
-    ensures held { OnOk result (buffer.new ≡ record buffer.old {
-      held = pushed buffer.old.holding.held buffer.old.cutoff buffer.old.held
-          (packet_of meta.seq_no (content_of meta.time meta.marker meta.ext_vals
-          (slice_range bytes.items start end)));
-    }) }
-    ensures unchanged { OnErr result (buffer.new ≡ buffer.old) }
-    ensures handed_back { IfErr result (λ e. e.value ≡ bytes) }
-{
-    buffer.push_range(meta, bytes, start, end)
-}
-
-/// Holds a part of these bytes as a datagram's payload, as [`hold`], with values that are kept already.
-fn hold_kept(
     buffer: &mut DepacketizingBuffer<CodecDepacketizer<NotBoxed>>,
     meta: HeldMeta,
     bytes: Vec<u8>,
@@ -229,6 +213,7 @@ fn hold_kept(
 }
 
 /// Whether a datagram says in its first byte that its header has no extensions (RFC 3550 5.1).
+#[inline]
 fn lacks_extension(datagram: &[u8]) -> bool
     ensures { result ≡ true → has_extension_in datagram.now ≡ false }
 {
@@ -239,6 +224,7 @@ fn lacks_extension(datagram: &[u8]) -> bool
 }
 
 /// What the buffer handed out, as a poll says it.
+#[inline]
 fn handed_out(popped: Result<Option<Unit>, PacketError>) -> Result<Option<Unit>, PollFault>
     ensures { found result ≡ as_answer (λ u. u) popped }
 {
@@ -316,6 +302,7 @@ impl ReceivingStream {
     ///
     /// # Conditions
     /// The header is the one in front of the datagram, read without values of header extensions.
+    #[inline]
     pub fn placed(&self, header: &RtpHeader, datagram: &[u8]) -> Option<Placed>
         requires { header_in empty_map datagram.now ≡ Some header.now }
         ensures brings { MatchOption result (brought self.now.ssrc self.now.types header.now datagram.now ≡ None)
@@ -345,6 +332,7 @@ impl ReceivingStream {
     }
 
     /// The values that are read in a datagram, as they are kept.
+    #[inline]
     fn values_kept(&self, datagram: &[u8]) -> Result<KeptValues, AllocError>
         ensures { IfOk result (λ k. k ≡ values_read self.now.map datagram.now) }
     {
@@ -363,6 +351,7 @@ impl ReceivingStream {
     ///
     /// # Errors
     /// Out of memory for the packet, which changes nothing.
+    #[inline]
     pub fn receive(&mut self, placed: &Placed, datagram: &[u8]) -> Result<Option<SeqNo>, AllocError>
         requires in_order { placed.now.start ≤ placed.now.end }
         requires within { placed.now.end ≤ length datagram.now }
@@ -378,13 +367,8 @@ impl ReceivingStream {
         }
         let payload = Vec::from_slice(self.alloc, &datagram[placed.start..placed.end])?;
         let end = payload.len();
-        let meta = HeldMeta {
-            seq_no: number,
-            time: placed.time,
-            marker: placed.marker,
-            ext_vals: self.values_kept(datagram)?,
-        };
-        hold_kept(&mut self.buffer, meta, payload, 0, end)?;
+        let meta = placed.meta(number, self.values_kept(datagram)?);
+        hold(&mut self.buffer, meta, payload, 0, end)?;
         record(&mut self.window, number);
         Ok(Some(number))
     }
@@ -414,7 +398,10 @@ impl ReceivingStream {
         if !accepts(&self.window, number) {
             return Ok(None);
         }
-        let meta = placed.meta(number, self.values_of(&datagram));
+        let Ok(ext_vals) = self.values_kept(&datagram) else {
+            return Err(AllocFailed { value: datagram });
+        };
+        let meta = placed.meta(number, ext_vals);
         hold(&mut self.buffer, meta, datagram, placed.start, placed.end)?;
         record(&mut self.window, number);
         Ok(Some(number))
@@ -439,6 +426,7 @@ impl ReceivingStream {
     /// # Errors
     /// `PollFault::Payload` if a packet of the next frame is refused, which is then done with, or
     /// `PollFault::Memory`, only if a frame is ready, which stays; some of its packets may have been read.
+    #[inline]
     pub fn poll(&mut self) -> Result<Option<Unit>, PollFault>
         ensures answers { AnswersBy (poll_step self.old) self.new (found result) }
     {

@@ -154,7 +154,7 @@ impl ReceivingStream {
         self.buffer.set_depacketizer(depacketizer);
     }
 
-    /// Whether a frame ends with a packet of this stream's, by its marker bit and its payload: what a forwarder is told.
+    /// Whether a frame ends with a packet of this stream's, by its marker bit and its payload, as a forwarder asks.
     pub fn ends_frame(&self, marker: bool, payload: &[u8]) -> bool
         ensures { result ≡ (format_of self.now.row).tail marker payload.now }
     {

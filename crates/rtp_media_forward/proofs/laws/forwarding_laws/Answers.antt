@@ -54,7 +54,8 @@ returns-clause-aside c = λ values senders first before parts later f came is fi
     ∙ sends no_values (bare_senders senders) first before parts later came f is
     (all-as-in (bare_senders senders) parts came from) within
     ∙ ap (λ (ns : List ℕ). datagrams_at
-    (numbered first (datagrams (relayed no_values (before ++ parts ++ later)))) ns) (numbers-aside values senders came f)
+    (numbered first (datagrams (relayed no_values (before ++ parts ++ later)))) ns)
+    (numbers-aside values senders came f)
 
 pub returns-clause-newest : goal.returns-clause-newest
 returns-clause-newest c = newest

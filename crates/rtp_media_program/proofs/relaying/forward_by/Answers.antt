@@ -65,7 +65,8 @@ returns-in-Ok-send_on c =
     c.in-Some-forward.at c.take_number.new.self _ _ _ replies.items (sym c.in-Some-forward.ensures.placed)
     c.take_number.ensures.after
     (c.forward.ensures.after ∙ ap₂ (λ (q : Option Placed) (b : Bool). after_packet c.args.forwarder.now q b)
-    (sym c.in-Some-forward.ensures.placed) c.ends_frame-ends.ensures) c.in-Ok-send_on.ensures.sent printed) c.two-in-Ok-send_on.ensures
+    (sym c.in-Some-forward.ensures.placed) c.ends_frame-ends.ensures) c.in-Ok-send_on.ensures.sent printed)
+    c.two-in-Ok-send_on.ensures
 
 pub returns : goal.returns
 returns c =
