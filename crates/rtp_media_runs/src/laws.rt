@@ -22,15 +22,16 @@ ghost use Rattle.rtp_media_runs.specs.declared.schedule.Event.{Event};
 use h26x_payload::codec_law;
 use rtp_media_ends::openings_law;
 
-/// After two ends have exchanged an offer and an answer, each opens a stream if and only if the
-/// answer's row and its own agree (`sends`, `receives`). For every sane schedule of losses,
-/// reorderings, repeats, foreign bytes and polls, the receiver's units are a legal selection
-/// (`legal`) of the canonical units, which are a function only of the row, extension map, limits,
-/// first picture id, `for_browsers` and samples (`units`); what the receiver hands out is a
-/// function only of its own datagrams and polls (`alone`); and under a tame schedule it is exactly
-/// these units (`exact`). Under every sane schedule a unit that came whole isn't skipped, and comes at the latest when
-/// more units came whole than are held back (`follows`); and as long as every unit comes in time, at every hold-back,
-/// each poll returns the next unit if all its datagrams came (`prompt`), as under tame schedules (`timely`).
+/// After two ends have exchanged an offer and an answer text, each opens a stream exactly where the answer's row and
+/// its own agree, and for every sane schedule of losses, reorderings, repeats, foreign bytes and polls the receiver's
+/// units are a legal selection of `units`, a function of its own datagrams and polls alone, and under a tame schedule
+/// they are exactly `units`.
+///
+/// The openings are `sends` and `receives`, the rest is `legal`, `alone` and `exact`. `units` are the canonical units,
+/// which are a function only of the row, extension map, limits, first picture id, `for_browsers` and samples (clause
+/// `units`). Under every sane schedule a unit that came whole isn't skipped, and comes at the latest when more units
+/// came whole than are held back (`follows`); and as long as every unit comes in time, at every hold-back, each poll
+/// returns the next unit if all its datagrams came (`prompt`), as under tame schedules (`timely`).
 pub fn headline()
     ensures sends { (end : EndState) (mid : List ℕ) (ssrc pt : ℕ) →
         (refusal_of_open_sender end mid ssrc pt ≡ None) ↔ SendsAt end mid ssrc pt }
