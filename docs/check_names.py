@@ -8,7 +8,8 @@ underscore stands somewhere in the tree, and a block behind a line `<!-- FILE --
 depth of indentation. No other line is longer than 120 characters, README has at most 130 lines, and each link within
 the repository leads to a file, and to a heading of it. Each wrong body in tests/wrong_bodies/ and crates/*/must-fail/ changes
 text that its file has once. Counts on pages are those of the tree, if this script can tell, and premises that nothing
-meets those of docs/premises.py. A name is imported from the crate that defines it: only the crates for users hand names
+meets those of docs/premises.py. docs/laws.txt has the statements of all laws, as docs/laws.py writes them. A name is
+imported from the crate that defines it: only the crates for users hand names
 on, each straight from its crate, and only programs take them there. What calls of the library for C answer is numbered
 alike in its crate, its header, and the packages for Rust, Go and Python. All packages have one version, under which
 nothing of the released header is gone (bindings/dist/versions). Prints what is missing, and ends with status 1
@@ -165,6 +166,13 @@ def differing_api_pages():
     yield from (printed.stdout + printed.stderr).splitlines()
 
 
+def differing_laws():
+    """docs/laws.txt has the statements of all laws as docs/laws.py writes them."""
+    printed = subprocess.run([sys.executable, ROOT / "docs/laws.py", "--check"], capture_output=True, text=True)
+    for line in (printed.stdout + printed.stderr).splitlines():
+        yield f"docs/laws.txt: {line}"
+
+
 def differing_files():
     """What one program printed and another one reads, or a page shows, is the same."""
     printed = without_indent((CRATES / "rtpexplain/stdout").read_text(encoding="utf-8").split("\n"))
@@ -254,9 +262,9 @@ def stale_edits():
 
 
 def unmet_premises():
-    """Premises within clauses that no proof meets stand on docs/PROMISES.md, and no others do."""
+    """Premises within clauses that no proof meets are on docs/PROMISES.md, and no others are."""
     unmet = subprocess.run([sys.executable, ROOT / "docs/premises.py", "unmet"], capture_output=True, text=True).stdout
-    said = (ROOT / "docs/PROMISES.md").read_text(encoding="utf-8").split("[premises.py](premises.py)")[1].split("\n\n")[0]
+    said = (ROOT / "docs/PROMISES.md").read_text(encoding="utf-8").split("[premises.py](premises.py)")[1].split("\n\nTrusted")[0]
     told = set(re.findall(r"`(\w+)`", said))
     for name in sorted(told ^ set(unmet.split())):
         yield f"docs/PROMISES.md: {name} is {'met' if name in told else 'a premise that nothing meets'}"
@@ -392,6 +400,7 @@ found = [
     *stale_edits(),
     *differing_counts(),
     *unmet_premises(),
+    *differing_laws(),
     *detours(),
 ]
 for line in found:
