@@ -67,7 +67,8 @@ def main():
     if sys.argv[1:] == ["--check"]:
         stored = STORED.read_text(encoding="utf-8") if STORED.exists() else ""
         changes = list(difflib.unified_diff(stored.splitlines(), text.splitlines(), "stored", "the tree", n=1, lineterm=""))
-        print(*changes[:60], sep="\n")
+        for line in changes[:60]:
+            print(line)
         sys.exit(1 if changes else 0)
     STORED.write_text(text, encoding="utf-8")
 
