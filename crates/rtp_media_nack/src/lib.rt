@@ -1,0 +1,6 @@
+//! Generic NACKs (RFC 4585 6.2.1): which numbers a receiver asks for now, and which datagrams a sender has to repair.
+#![tactic(auto)]
+
+mod history;
+
+pub use history::{Copied, PacketHistory};
