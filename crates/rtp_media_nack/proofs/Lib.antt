@@ -1,2 +1,3 @@
 pub mod Fitting
 pub mod Lookups
+pub mod Rising

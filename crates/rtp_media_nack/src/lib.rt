@@ -2,5 +2,7 @@
 #![tactic(auto)]
 
 mod history;
+mod requests;
 
 pub use history::{Copied, PacketHistory};
+pub use requests::{NackRequester, Request, is_rising};
