@@ -1,12 +1,11 @@
 -- Datagrams that fit, and one more among them.
-use Rattle.std.proofs.Common.{◌≡◌, ℕ, ◌+◌, ◌≤◌, List, [], ◌∷◌, length, Option, Some, None, is_some, false, true, refl, Bool, if◌then◌else◌, arith, nat_le}
+use Rattle.std.proofs.Common.{◌≡◌, ℕ, ◌+◌, List, [], ◌∷◌, length, Option, Some, is_some, false, true, refl, Bool, if◌then◌else◌, arith}
 use Rattle.std.specs.BTreeMap.{insert_entry, is_at}
 use Rattle.std.specs.Map.{lookup}
 use Rattle.std.specs.Ordering.{nat_cmp, is_eq, match_ordering}
 use Rattle.std.specs.declared.cmp.Ordering.{Ordering}
 use Rattle.std.specs.declared.cmp.Ordering.TheVariants.{Less, Equal, Greater}
 use Rattle.std.proofs.Common.{cond}
-use Rattle.std.proofs.lemmas.Grind.{common_steps}
 use Rattle.rtp_media_nack.specs.Histories.{History, Sent, bytes_of, fits, gone_after, newest_fitting, is_gone, is_held, kept, with_packets}
 
 -- What fits stays whole.

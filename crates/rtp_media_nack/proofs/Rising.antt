@@ -1,9 +1,9 @@
 -- Entries of rising numbers.
-use Rattle.std.proofs.Common.{Bool, true, false, ◌∙◌, ◌≡◌, ℕ, ◌+◌, ◌<◌, ◌++◌, List, [], ◌∷◌, refl, sym, ap, suc, length, take, get_or, map, arith}
+use Rattle.std.proofs.Common.{Bool, true, false, ◌∙◌, ◌≡◌, ℕ, ◌+◌, ◌<◌, ◌++◌, List, [], ◌∷◌, refl, sym, suc, length, take, get_or, map, arith}
 use Rattle.std.specs.BTreeMap.{insert_entry}
 use Rattle.std.specs.Cmp.{nat_cmp_is}
 use Rattle.std.specs.List.Sorted.{IsStrictlyIncreasing}
-use Rattle.std.specs.Ordering.{nat_cmp, match_ordering}
+use Rattle.std.specs.Ordering.{nat_cmp}
 use Rattle.std.specs.declared.cmp.Ordering.TheVariants.{Greater}
 use Rattle.std.proofs.lemmas.List.{append-nil, get_or-take, length-take, map-append, take_more}
 use Rattle.std.proofs.lemmas.List.Elements.{filter-append}

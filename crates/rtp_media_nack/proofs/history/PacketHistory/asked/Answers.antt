@@ -1,4 +1,4 @@
-use Rattle.std.proofs.Common.{◌≡◌, ◌∙◌, sym}
+use Rattle.std.proofs.Common.{◌∙◌, sym}
 use Rattle.rtp_media_nack.proofs.Lookups.{asked-at, asked-none}
 use Rattle.rtp_media_nack.proofs.history.PacketHistory.asked.Goals as goal
 

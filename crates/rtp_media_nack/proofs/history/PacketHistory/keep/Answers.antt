@@ -1,5 +1,4 @@
-use Rattle.std.proofs.Common.{◌≡◌, ◌∙◌, sym, true, arith, ap, length, refl}
-use Rattle.rtp_media_nack.specs.Histories.{bytes_of, fits, is_held}
+use Rattle.std.proofs.Common.{sym, ap, length, refl}
 use Rattle.rtp_media_nack.proofs.Fitting.{bytes-insert, kept-held}
 use Rattle.rtp_media_nack.proofs.history.PacketHistory.keep.Goals as goal
 
