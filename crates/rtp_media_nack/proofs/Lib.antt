@@ -1,3 +1,5 @@
 pub mod Fitting
 pub mod Lookups
 pub mod Rising
+pub mod Newest
+pub mod Requested

@@ -2,7 +2,9 @@
 #![tactic(auto)]
 
 mod history;
+mod laws;
 mod requests;
 
 pub use history::{Copied, PacketHistory};
+pub use laws::nack_laws;
 pub use requests::{NackRequester, Request, is_rising};
