@@ -1,12 +1,14 @@
 -- Datagrams that fit, and one more among them.
-use Rattle.std.proofs.Common.{◌≡◌, ℕ, ◌+◌, List, [], ◌∷◌, length, Option, Some, is_some, false, true, refl, Bool, if◌then◌else◌, arith}
+use Rattle.std.proofs.Common.{◌≡◌, ℕ, ◌+◌, List, [], ◌∷◌, length, Option, Some, is_some, false, true, refl, Bool}
+use Rattle.std.proofs.Common.{if◌then◌else◌, arith}
 use Rattle.std.specs.BTreeMap.{insert_entry, is_at}
 use Rattle.std.specs.Map.{lookup}
 use Rattle.std.specs.Ordering.{nat_cmp, is_eq, match_ordering}
 use Rattle.std.specs.declared.cmp.Ordering.{Ordering}
 use Rattle.std.specs.declared.cmp.Ordering.TheVariants.{Less, Equal, Greater}
 use Rattle.std.proofs.Common.{cond}
-use Rattle.rtp_media_nack.specs.Histories.{History, Sent, bytes_of, fits, gone_after, newest_fitting, is_gone, is_held, kept, with_packets}
+use Rattle.rtp_media_nack.specs.Histories.{History, Sent, bytes_of, fits, gone_after, newest_fitting, is_gone, is_held}
+use Rattle.rtp_media_nack.specs.Histories.{kept, with_packets}
 
 -- What fits stays whole.
 pub fitting-fits : (most most_bytes : ℕ) (ps : List Sent) → fits most most_bytes ps ≡ true

@@ -1,5 +1,6 @@
 -- Two tests that agree on all keys find the same.
-use Rattle.std.proofs.Common.{◌≡◌, ℕ, ◌≤◌, ◌==◌, ◌-◌, slice_get, List, [], ◌∷◌, Some, None, Bool, false, refl, sym, ◌∙◌, arith, length, suc}
+use Rattle.std.proofs.Common.{◌≡◌, ℕ, ◌≤◌, ◌==◌, ◌-◌, slice_get, List, [], ◌∷◌, Some, None, Bool, false, refl, sym}
+use Rattle.std.proofs.Common.{◌∙◌, arith, length, suc}
 use Rattle.std.specs.BTreeMap.{is_at}
 use Rattle.std.specs.List.{All}
 use Rattle.std.specs.Map.{keys_of, lookup}

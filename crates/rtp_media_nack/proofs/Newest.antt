@@ -1,5 +1,6 @@
 -- Datagrams of rising numbers that are kept one after the other.
-use Rattle.std.proofs.Common.{◌≡◌, ℕ, ◌+◌, ◌<◌, ◌≤◌, ◌++◌, ◌∙◌, ◌&&◌, nat_le, if◌then◌else◌, cond, List, [], ◌∷◌, Option, Some, None, is_some, Bool, true, false, refl, sym, ap, arith, length, length-append}
+use Rattle.std.proofs.Common.{◌≡◌, ℕ, ◌+◌, ◌<◌, ◌≤◌, ◌++◌, ◌∙◌, ◌&&◌, nat_le, if◌then◌else◌, cond, List, [], ◌∷◌}
+use Rattle.std.proofs.Common.{Option, Some, is_some, Bool, true, false, refl, ap, arith, length, length-append}
 use Rattle.std.specs.BTreeMap.{insert_entry, is_at}
 use Rattle.std.specs.Cmp.{nat_cmp_is}
 use Rattle.std.specs.Map.{lookup}
@@ -7,7 +8,8 @@ use Rattle.std.specs.Ordering.{nat_cmp, match_ordering, is_eq}
 use Rattle.std.specs.declared.cmp.Ordering.{Ordering}
 use Rattle.std.specs.declared.cmp.Ordering.TheVariants.{Greater}
 use Rattle.std.proofs.lemmas.Grind.{common_steps}
-use Rattle.rtp_media_nack.specs.Histories.{History, Sent, bytes_of, fits, gone_after, is_gone, is_held, kept, newest_fitting, placed_in, with_packets}
+use Rattle.rtp_media_nack.specs.Histories.{History, Sent, bytes_of, fits, gone_after, is_gone, is_held, newest_fitting}
+use Rattle.rtp_media_nack.specs.Histories.{placed_in, with_packets}
 use Rattle.rtp_media_nack.specs.Runs.{AreBelow, IsRising, after_keeping, in_order}
 
 step-last : (o : Ordering) (n : ℕ) (d : List ℕ) (p : Sent) (ps rest : List Sent) → Greater ≡ o
@@ -19,7 +21,8 @@ insert-above : (ps : List Sent) (n : ℕ) (d : List ℕ) → AreBelow n ps
     → insert_entry nat_cmp ps n d ≡ ps ++ (n, d) ∷ []
 insert-above [] n d b = refl
 insert-above (p ∷ ps) n d b =
-    step-last (nat_cmp n p.0) n d p ps (insert_entry nat_cmp ps n d) (nat_cmp_is n p.0 Greater b.0) (insert-above ps n d b.1)
+    step-last (nat_cmp n p.0) n d p ps (insert_entry nat_cmp ps n d) (nat_cmp_is n p.0 Greater b.0)
+    (insert-above ps n d b.1)
 
 held-step : (o : Ordering) (p : Sent) (rest : Option (List ℕ)) → Greater ≡ o → is_some rest ≡ false
     → is_some (cond (is_eq o) (Some p.1) rest) ≡ false
@@ -121,7 +124,8 @@ one-more m b before p h l s =
       packets = rw (placed, s.most, s.most_bytes, s.packets) (newest-append m b (in_order before) p);
       gone = λ n a. rw (placed, s.most, s.most_bytes)
           (gone-below n m b h.gone (h.packets ++ p ∷ []) (s.gone n a.1)
-          (below-append n h.packets p (rw s.packets (below-newest n m b (in_order before) (below-in-order n before a.1))) a.0));
+          (below-append n h.packets p (rw s.packets (below-newest n m b (in_order before)
+          (below-in-order n before a.1))) a.0));
     }
 
 step-kept : (m b : ℕ) (before : List Sent) (h k : History) (t : Bool) → t ≡ false → HasKept m b before k

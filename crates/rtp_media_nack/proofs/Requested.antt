@@ -1,13 +1,13 @@
 -- What a requester knows is what the calls before told it.
-use Rattle.std.proofs.Common.{◌≡◌, ℕ, ◌+◌, ◌≤◌, ◌==◌, ◌&&◌, ◌||◌, ◌∙◌, nat_lt, if◌then◌else◌, cond, List, [], ◌∷◌, Option, Some, None, Bool, true, false, refl, sym, ap, arith, filter, map}
-use Rattle.std.specs.List.{list_any}
+use Rattle.std.proofs.Common.{◌≡◌, ℕ, ◌+◌, ◌≤◌, ◌==◌, ◌&&◌, ◌||◌, ◌∙◌, nat_lt, if◌then◌else◌, cond, List, [], ◌∷◌}
+use Rattle.std.proofs.Common.{Option, Some, Bool, true, false, refl, ap, arith, filter, map}
 use Rattle.std.specs.Map.{lookup}
 use Rattle.std.specs.BTreeMap.{is_at}
 use Rattle.std.specs.Option.{unwrap_or}
 use Rattle.std.specs.Ordering.{nat_cmp}
 use Rattle.std.proofs.lemmas.Grind.{common_steps}
 use Rattle.rtp_media_nack.specs.declared.requests.Request.{Request}
-use Rattle.rtp_media_nack.specs.Requests.{Requests, after_call, after_turn, due, entry_after, first_missing, is_due, request_in}
+use Rattle.rtp_media_nack.specs.Requests.{Requests, after_turn, first_missing, is_due, request_in}
 use Rattle.rtp_media_nack.specs.Runs.{Call, after_calls, is_among, told_of}
 use Rattle.rtp_media_nack.proofs.Lookups.{is_at-same}
 
@@ -25,8 +25,10 @@ found : (f : ℕ → Request) (d : Request) (n : ℕ) (ms : List ℕ)
     → unwrap_or (lookup (is_at (nat_cmp n)) (map (λ m. (m, f m)) ms)) d ≡ (if is_among n ms then f n else d)
 found f d n [] = refl
 found f d n (m ∷ ms) =
-    ap (λ (b : Bool). unwrap_or (cond b (Some (f m)) (lookup (is_at (nat_cmp n)) (map (λ k. (k, f k)) ms))) d) (is_at-same n m)
-    ∙ found-step f d n m (lookup (is_at (nat_cmp n)) (map (λ k. (k, f k)) ms)) (is_among n ms) (n == m) refl (found f d n ms)
+    ap (λ (b : Bool). unwrap_or (cond b (Some (f m)) (lookup (is_at (nat_cmp n)) (map (λ k. (k, f k)) ms))) d)
+    (is_at-same n m)
+    ∙ found-step f d n m (lookup (is_at (nat_cmp n)) (map (λ k. (k, f k)) ms)) (is_among n ms) (n == m) refl
+    (found f d n ms)
 
 most-same : (most delay : ℕ) (calls : List Call) → (after_calls most delay calls).most ≡ most
 most-same most delay [] = refl
@@ -37,7 +39,8 @@ delay-same most delay [] = refl
 delay-same most delay (c ∷ before) = delay-same most delay before
 
 told-step : (b : Bool) (first r known : Request) (m d most delay now round_trip : ℕ) → m ≡ most → d ≡ delay → r ≡ known
-    → (if b then after_turn m d now round_trip r else first) ≡ (if b then after_turn most delay now round_trip known else first)
+    → (if b then after_turn m d now round_trip r else first) ≡
+    (if b then after_turn most delay now round_trip known else first)
 told-step b first r known m d most delay now round_trip e f g = rw (e, f, g) refl
 
 pub told : (most delay n now : ℕ) (calls : List Call)
@@ -45,8 +48,10 @@ pub told : (most delay n now : ℕ) (calls : List Call)
 told most delay n now [] = refl
 told most delay n now (c ∷ before) =
     let q : Requests = after_calls most delay before in
-    found (λ m. after_turn q.most q.delay c.now c.round_trip (request_in q.entries c.now m)) (first_missing now) n c.missing
-    ∙ told-step (is_among n c.missing) (first_missing now) (request_in q.entries c.now n) (told_of most delay n c.now before)
+    found (λ m. after_turn q.most q.delay c.now c.round_trip (request_in q.entries c.now m))
+    (first_missing now) n c.missing
+    ∙ told-step (is_among n c.missing) (first_missing now) (request_in q.entries c.now n)
+    (told_of most delay n c.now before)
     q.most q.delay most delay c.now c.round_trip
     (most-same most delay before) (delay-same most delay before) (told most delay n c.now before)
 
@@ -69,7 +74,8 @@ at-most most delay n now [] = omega arith
 at-most most delay n now (c ∷ before) =
     pick (is_among n c.missing) (after_turn most delay c.now c.round_trip (told_of most delay n c.now before))
     (first_missing now) most
-    (λ e. turn-times most delay c.now c.round_trip (told_of most delay n c.now before) (at-most most delay n c.now before))
+    (λ e. turn-times most delay c.now c.round_trip (told_of most delay n c.now before)
+    (at-most most delay n c.now before))
     (omega arith)
 
 or-step : (e r t : Bool) → (r ≡ true → t ≡ true) → (e || r) ≡ true → (e || t) ≡ true

@@ -1,5 +1,6 @@
 -- Entries of rising numbers.
-use Rattle.std.proofs.Common.{Bool, true, false, ◌∙◌, ◌≡◌, ℕ, ◌+◌, ◌<◌, ◌++◌, List, [], ◌∷◌, refl, sym, suc, length, take, get_or, map, arith}
+use Rattle.std.proofs.Common.{Bool, true, false, ◌∙◌, ◌≡◌, ℕ, ◌+◌, ◌<◌, ◌++◌, List, [], ◌∷◌, refl, sym, suc, length}
+use Rattle.std.proofs.Common.{take, get_or, map, arith}
 use Rattle.std.specs.BTreeMap.{insert_entry}
 use Rattle.std.specs.Cmp.{nat_cmp_is}
 use Rattle.std.specs.List.Sorted.{IsStrictlyIncreasing}

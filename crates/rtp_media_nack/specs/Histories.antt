@@ -9,8 +9,8 @@ use Rattle.std.specs.Ordering.{nat_cmp}
 abbrev pub Sent : Type 0
 Sent = ℕ × List ℕ
 
--- The datagrams kept, by rising number; the bounds of their count and of their bytes; and the greatest number that went,
--- if one did.
+-- The datagrams kept, by rising number; the bounds of their count and of their bytes; and the greatest number that
+-- went, if one did.
 pub record History : Type 0 where
   pub packets : List Sent
   pub most : ℕ

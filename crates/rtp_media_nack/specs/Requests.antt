@@ -6,7 +6,7 @@ use Rattle.std.specs.Map.{lookup}
 use Rattle.std.specs.Ordering.{nat_cmp}
 use Rattle.rtp_media_nack.specs.declared.requests.Request.{Request}
 
--- The numbers that were missing at the last call, and how often each is asked for at most, and how long it is waited for
+-- The numbers that were missing at the last call; how often each is asked for at most; and how long it is waited for
 -- before it is asked for.
 pub record Requests : Type 0 where
   pub entries : List (ℕ × Request)

@@ -1,8 +1,8 @@
 //! What was sent, kept to be sent again.
 
 ghost use Rattle.std.specs.Prelude.{◌≡◌, ◌≤◌, ◌==◌, false, IfNone, IfOk, IfSome, OnErr, OnOk, ℕ, option_map};
-ghost use Rattle.rtp_media_nack.specs.Histories.{IsWithin, asked, bytes_of, gone_after, is_gone, is_meant, kept, newest_fitting};
-ghost use Rattle.rtp_media_nack.specs.Histories.{nothing_kept};
+ghost use Rattle.rtp_media_nack.specs.Histories.{IsWithin, asked, bytes_of, gone_after, is_gone, is_meant, kept};
+ghost use Rattle.rtp_media_nack.specs.Histories.{newest_fitting, nothing_kept};
 
 use std::alloc::{AllocError, Global};
 use std::collections::BTreeMap;

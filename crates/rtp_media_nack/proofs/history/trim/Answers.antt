@@ -12,4 +12,5 @@ returns-clause-packets c =
 pub returns-clause-gone : goal.returns-clause-gone
 returns-clause-gone c =
     let h : fits c.args.most c.args.most_bytes c.loop-packets.packets.entries ≡ true = grind (arith, common_steps) in
-    sym (gone-fits c.args.most c.args.most_bytes c.loop-packets.gone c.loop-packets.packets.entries h) ∙ c.loop-packets.invariant.gone
+    sym (gone-fits c.args.most c.args.most_bytes c.loop-packets.gone c.loop-packets.packets.entries h) ∙
+    c.loop-packets.invariant.gone
