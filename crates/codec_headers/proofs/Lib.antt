@@ -1,0 +1,4 @@
+pub mod BitLemmas
+pub mod LayerLemmas
+pub mod NalLemmas
+pub mod ScaleLemmas

@@ -1,0 +1,9 @@
+pub mod Av1
+pub mod Av1Color
+pub mod Bits
+pub mod H264
+pub mod H265
+pub mod Nal
+pub mod Picture
+pub mod Vp8
+pub mod Vp9
