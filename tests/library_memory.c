@@ -381,6 +381,27 @@ static void forwarder(void)
     say("forwarder_close: %u\n", jilqamur_forwarder_close(&handle));
 }
 
+/* A history of which some go, and what is asked for of it. */
+static void nacks(void)
+{
+    static const uint8_t datagram[] = {1, 2, 3, 4, 5, 6, 7, 8, 9};
+    static const uint64_t missing[] = {2, 3, 7};
+    jilqamur_history history = JILQAMUR_HISTORY_CLOSED;
+    jilqamur_requester requester = JILQAMUR_REQUESTER_CLOSED;
+    uint8_t bytes[9];
+    uint64_t numbers[3];
+    size_t needed = 0;
+    ASK("history_open", jilqamur_history_open(&history, 4, 30));
+    ASK("requester_open", jilqamur_requester_open(&requester, 2, 5));
+    for (uint64_t k = 0; k < 9; k++) {
+        ASK("history_keep", jilqamur_history_keep(&history, k, datagram, k));
+        say("asked: %u\n", jilqamur_history_asked(&history, (uint16_t)(k - 2), bytes, 9, &needed));
+        ASK("requester_ask", jilqamur_requester_ask(&requester, missing, 3, 5 * k, 10, numbers, 3, &needed));
+        say("%u\n", (unsigned)needed);
+    }
+    say("closed: %u, %u\n", jilqamur_history_close(&history), jilqamur_requester_close(&requester));
+}
+
 static const uint8_t obus[] = {0x12, 0, 0x32, 3, 0xaa, 0xbb, 0xcc};
 
 /* All of it; `part` says which, so that a stream that failed cuts off nothing else. */
@@ -390,6 +411,7 @@ static void sequence(int part)
     case 0:
         window();
         forwarder();
+        nacks();
         payloads("H264", 90000, 8, unit_bytes, sizeof unit_bytes);
         payloads("AV1", 90000, 3, obus, sizeof obus);
         payloads("opus", 48000, 8, unit_bytes, sizeof unit_bytes);

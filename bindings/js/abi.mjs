@@ -220,6 +220,20 @@ export const STRUCTS = {
       timestamp: [8, "u32"],
     },
   },
+  history: {
+    size: 16,
+    fields: {
+      full: [0, "bool"],
+      place: [8, "u64"],
+    },
+  },
+  requester: {
+    size: 16,
+    fields: {
+      full: [0, "bool"],
+      place: [8, "u64"],
+    },
+  },
   sender_params: {
     size: 40,
     fields: {
@@ -327,6 +341,13 @@ export const CALLS = [
   "forwarder_forward",
   "forwarder_pass_empty",
   "forwarder_next",
+  "history_open",
+  "history_close",
+  "history_keep",
+  "history_asked",
+  "requester_open",
+  "requester_close",
+  "requester_ask",
   "sender_open",
   "sender_close",
   "sender_push_sample",

@@ -221,6 +221,19 @@ export declare class Forwarder extends Handle {
   next(): number;
 }
 
+export declare class PacketHistory extends Handle {
+  private constructor();
+  keep(number: number | bigint, datagram: Uint8Array): void;
+  /** The datagram that a NACK asks for by the low 16 bits of its number. */
+  asked(low: number): Uint8Array | undefined;
+}
+
+export declare class NackRequester extends Handle {
+  private constructor();
+  /** The numbers to ask for now; times are ticks of the caller's clock. */
+  ask(missing: readonly (number | bigint)[], now: number | bigint, roundTrip: number | bigint): number[];
+}
+
 /** The library, with a memory of its own, which grows and never shrinks. */
 export declare class Jilqamur {
   private constructor();
@@ -233,6 +246,10 @@ export declare class Jilqamur {
   sender(options: Format & Partial<SenderParamsFields> & { ssrc: number; payloadType: number }): Sender;
   receiver(options: Format & { holdBack: number; held?: number }): Receiver;
   forwarder(first?: number | bigint): Forwarder;
+  /** Of more than `most` datagrams, or `mostBytes` bytes, those with the lowest numbers go. */
+  history(bounds: { most: number; mostBytes: number }): PacketHistory;
+  /** Each number is asked for at most `most` times, the first time `delay` ticks after it is missing. */
+  requester(bounds: { most: number; delay: number | bigint }): NackRequester;
   readHeader(datagram: Uint8Array): Header | undefined;
   writeHeader(header: Partial<Header> & {
     payloadType: number; sequenceNumber: number; timestamp: number; ssrc: number }): Uint8Array;

@@ -4,10 +4,11 @@
 import { CODES, FAULTS, MAX_HELD, MIN_HELD, STRUCTS, VERSION } from "./abi.mjs";
 import { End } from "./ends.mjs";
 import { done, Locked, Memory, Refused, sequence, within } from "./memory.mjs";
-import { Depacketizer, Forwarder, Packetizer, Receiver, Sender, Window } from "./streams.mjs";
+import { Depacketizer, Forwarder, NackRequester, PacketHistory, Packetizer, Receiver, Sender, Window }
+  from "./streams.mjs";
 
-export { CODES, Depacketizer, End, Forwarder, Locked, MAX_HELD, MIN_HELD, Packetizer, Receiver, Refused, Sender,
-  VERSION, Window };
+export { CODES, Depacketizer, End, Forwarder, Locked, MAX_HELD, MIN_HELD, NackRequester, PacketHistory, Packetizer,
+  Receiver, Refused, Sender, VERSION, Window };
 
 // The names of section and stream that a datagram carries, by the fields of their struct.
 const NAMES = { mid: "mid", rid: "rid", repairedRid: "repaired_rid" };
@@ -75,6 +76,14 @@ export class Jilqamur {
 
   forwarder(first) {
     return new Forwarder(this.#memory, first);
+  }
+
+  history(bounds) {
+    return new PacketHistory(this.#memory, bounds);
+  }
+
+  requester(bounds) {
+    return new NackRequester(this.#memory, bounds);
   }
 
   /** The header in front of a datagram; undefined if there is none. */

@@ -1,5 +1,5 @@
-// Values without an end: packetizers and depacketizers, sending and receiving streams by a codec's name, forwarders and
-// replay windows.
+// Values without an end: packetizers and depacketizers, sending and receiving streams by a codec's name, forwarders,
+// histories and requesters of generic NACKs, and replay windows.
 
 import { CODES, MIN_HELD } from "./abi.mjs";
 import { datagramsOf, missingOf, polled, unitOf, unitsOf } from "./fetching.mjs";
@@ -167,6 +167,47 @@ export class Receiver extends Handle {
 
   keepWithin(bytes) {
     done(this.memory.call.receiver_keep_within(this.at, within(bytes, "size", "bytes")));
+  }
+}
+
+/** Keeps the datagrams that a stream sent last, by number, to be sent again when a generic NACK asks for them. */
+export class PacketHistory extends Handle {
+  constructor(memory, { most, mostBytes }) {
+    super(memory, "history");
+    opened(this, memory.call.history_open(this.at, within(most, "u32", "most"), within(mostBytes, "u32", "mostBytes")));
+  }
+
+  /** Keeps a copy of a datagram under its number; of more than fit the lowest numbers go. */
+  keep(number, datagram) {
+    const memory = this.memory;
+    memory.begin();
+    done(memory.call.history_keep(this.at, sequence(number, "number"), ...memory.bytes(datagram, "datagram")));
+  }
+
+  /** The datagram that a NACK asks for by the low 16 bits of its number; undefined if it isn't held. */
+  asked(low) {
+    const memory = this.memory;
+    memory.begin();
+    return memory.fetched((...words) => memory.call.history_asked(this.at, within(low, "u16", "low"), ...words));
+  }
+}
+
+/** Says what a receiver asks for by generic NACKs: each missing number at most so often, a round trip apart. */
+export class NackRequester extends Handle {
+  constructor(memory, { most, delay }) {
+    super(memory, "requester");
+    opened(this, memory.call.requester_open(this.at, within(most, "u32", "most"), word(delay, "delay")));
+  }
+
+  /** The numbers to ask for now, of those that are missing now; times are ticks of the caller's clock. */
+  ask(missing, now, roundTrip) {
+    const memory = this.memory, count = missing.length;
+    memory.begin();
+    const given = memory.room(8 * count), to = memory.room(8 * count), needed = memory.room(8);
+    missing.forEach((number, index) => memory.view.setBigUint64(given + 8 * index, sequence(number, "missing"), true));
+    done(memory.call.requester_ask(this.at, given, count, word(now, "now"), word(roundTrip, "roundTrip"), to, count,
+      needed));
+    return Array.from({ length: memory.u64(needed) }, (_, index) => memory.u64(to + 8 * index));
   }
 }
 

@@ -321,6 +321,69 @@ static void forwarder(void)
     check(jilqamur_forwarder_close(&forwarder));
 }
 
+static void say_asked_for(jilqamur_history *history, uint16_t low)
+{
+    size_t needed = 0;
+    uint32_t answer = jilqamur_history_asked(history, low, bytes, MOST, &needed);
+    if (answer == JILQAMUR_OK)
+        hex("sent again", bytes, needed);
+    else
+        say("sent again", answer);
+}
+
+static void histories(void)
+{
+    static const uint8_t datagram[] = {1, 2, 3, 4, 5, 6, 7, 8, 9};
+    static const size_t sizes[] = {5, 1, 7, 8, 9};
+    jilqamur_history history = JILQAMUR_HISTORY_CLOSED, few = JILQAMUR_HISTORY_CLOSED;
+    size_t needed = 0;
+    check(jilqamur_history_open(&history, 4, 24));
+    check(jilqamur_history_open(&few, 2, 1000));
+    for (uint64_t k = 0; k < 5; k++) {
+        check(jilqamur_history_keep(&history, 65533 + k, datagram, sizes[k]));
+        check(jilqamur_history_keep(&few, 65533 + k, datagram, sizes[k]));
+    }
+    check(jilqamur_history_keep(&history, 65536, datagram + 1, 2));
+    check(jilqamur_history_keep(&history, 65534, datagram, 0));
+    for (size_t k = 0; k < 5; k++) {
+        say_asked_for(&history, (uint16_t)(65533 + k));
+        say_asked_for(&few, (uint16_t)(65533 + k));
+    }
+    say("sent again", jilqamur_history_asked(&history, 1, bytes, 8, &needed));
+    printf("needed %zu\n", needed);
+    check(jilqamur_history_close(&history));
+    check(jilqamur_history_close(&few));
+}
+
+static void say_requested(jilqamur_requester *requester, const uint64_t *missing, size_t count, uint64_t now)
+{
+    uint64_t numbers[3] = {0};
+    size_t needed = 0;
+    check(jilqamur_requester_ask(requester, missing, count, now, 50, numbers, 3, &needed));
+    printf("ask for");
+    for (size_t k = 0; k < needed; k++)
+        printf(" %" PRIu64, numbers[k]);
+    printf("\n");
+}
+
+static void requesters(void)
+{
+    static const uint64_t missing[] = {70, 71, 75, 74};
+    jilqamur_requester requester = JILQAMUR_REQUESTER_CLOSED;
+    uint64_t numbers[3] = {0};
+    size_t needed = 0;
+    check(jilqamur_requester_open(&requester, 2, 10));
+    say_requested(&requester, missing, 3, 100);
+    say_requested(&requester, missing, 3, 109);
+    say_requested(&requester, missing + 1, 2, 110);
+    say_requested(&requester, missing + 1, 2, 159);
+    say_requested(&requester, missing, 3, 160);
+    say_requested(&requester, missing, 3, 210);
+    say("ask", jilqamur_requester_ask(&requester, missing, 3, 300, 50, numbers, 2, &needed));
+    say("ask", jilqamur_requester_ask(&requester, missing, 4, 300, 50, numbers, 3, &needed));
+    check(jilqamur_requester_close(&requester));
+}
+
 void ends(void);
 
 int main(void)
@@ -336,6 +399,8 @@ int main(void)
     senders();
     receivers();
     forwarder();
+    histories();
+    requesters();
     ends();
     return 0;
 }

@@ -8,6 +8,8 @@ static jilqamur_depacketizer depacketizer = JILQAMUR_DEPACKETIZER_CLOSED;
 static jilqamur_sender sender = JILQAMUR_SENDER_CLOSED;
 static jilqamur_receiver receiver = JILQAMUR_RECEIVER_CLOSED;
 static jilqamur_forwarder forwarder = JILQAMUR_FORWARDER_CLOSED;
+static jilqamur_history history = JILQAMUR_HISTORY_CLOSED;
+static jilqamur_requester requester = JILQAMUR_REQUESTER_CLOSED;
 static jilqamur_end end = JILQAMUR_END_CLOSED;
 
 static size_t size = 7;
@@ -26,6 +28,7 @@ static const jilqamur_format format = {.clock_rate = 48000};
 static const jilqamur_packetizer_params packets;
 static const jilqamur_sender_params params = {.ssrc = 1, .payload_type = 111, .mtu = 1200, .limit = 1400};
 static const uint8_t datagram[12] = {0x80};
+static const uint64_t missing = 1;
 static const uint32_t ssrc = 1;
 
 #define SAY(call) say(#call, call)
@@ -50,6 +53,9 @@ static void of_codecs(void)
     SAY(jilqamur_forwarder_place(&forwarder, 0, 0, 0, &placed));
     SAY(jilqamur_forwarder_forward(&forwarder, 0, 0, 0, true, &placed));
     SAY(jilqamur_forwarder_pass_empty(&forwarder, 0, 0));
+    SAY(jilqamur_history_keep(&history, 0, datagram, 12));
+    SAY(jilqamur_history_asked(&history, 0, bytes, 9, &size));
+    SAY(jilqamur_requester_ask(&requester, &missing, 1, 0, 0, &number, 1, &size));
 }
 
 static void of_closed(void)
@@ -119,6 +125,8 @@ static void open_all(void)
     SAY(jilqamur_sender_open(&sender, &params, &format, JILQAMUR_TEXT("opus")));
     SAY(jilqamur_receiver_open(&receiver, &format, JILQAMUR_TEXT("opus"), 2, JILQAMUR_MIN_HELD));
     SAY(jilqamur_forwarder_open(&forwarder, 7));
+    SAY(jilqamur_history_open(&history, 7, 7));
+    SAY(jilqamur_requester_open(&requester, 7, 7));
     SAY(jilqamur_end_open(&end));
 }
 
@@ -130,6 +138,8 @@ static void close_all(void)
     SAY(jilqamur_sender_close(&sender));
     SAY(jilqamur_receiver_close(&receiver));
     SAY(jilqamur_forwarder_close(&forwarder));
+    SAY(jilqamur_history_close(&history));
+    SAY(jilqamur_requester_close(&requester));
     SAY(jilqamur_end_close(&end));
 }
 

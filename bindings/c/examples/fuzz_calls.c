@@ -7,7 +7,7 @@
 
 #include "jilqamur.h"
 
-enum { HANDLES = 3, MOST_TEXT = 1 << 14, TEXTS = 6, ANSWERS = JILQAMUR_NO_PAYLOAD + 1, MOST_CALLS = 89 };
+enum { HANDLES = 3, MOST_TEXT = 1 << 14, TEXTS = 6, ANSWERS = JILQAMUR_NO_PAYLOAD + 1, MOST_CALLS = 96 };
 
 static jilqamur_window windows[HANDLES];
 static jilqamur_packetizer packetizers[HANDLES];
@@ -15,6 +15,8 @@ static jilqamur_depacketizer depacketizers[HANDLES];
 static jilqamur_sender senders[HANDLES];
 static jilqamur_receiver receivers[HANDLES];
 static jilqamur_forwarder forwarders[HANDLES];
+static jilqamur_history histories[HANDLES];
+static jilqamur_requester requesters[HANDLES];
 static jilqamur_end ends[HANDLES];
 
 /* Texts and datagrams that calls left, which later calls are given, changed or not. */
@@ -460,6 +462,49 @@ static void of_forwarders(void)
     }
 }
 
+static void of_histories(void)
+{
+    jilqamur_history *history = ONE(histories);
+    view datagram = random_bytes(50), buffer = some_room();
+    size_t needed = 0;
+    switch (below(8)) {
+    case 0:
+        CALL(history_open, history, (uint32_t)below(6), (uint32_t)below(100));
+        break;
+    case 1:
+        if (!below(10))
+            CALL(history_close, history);
+        break;
+    case 2:
+    case 3:
+        copied(CALL(history_asked, history, (uint16_t)below(200), buffer.at, buffer.len, &needed), buffer, &needed);
+        break;
+    default:
+        CALL(history_keep, history, below(200), datagram.at, datagram.len);
+    }
+}
+
+static void of_requesters(void)
+{
+    jilqamur_requester *requester = ONE(requesters);
+    uint64_t missing[8], numbers[8], at = below(100);
+    size_t count = below(9), most = below(4) ? 8 : below(9), needed = 0;
+    switch (below(6)) {
+    case 0:
+        CALL(requester_open, requester, (uint32_t)below(4), below(3));
+        break;
+    case 1:
+        if (!below(10))
+            CALL(requester_close, requester);
+        break;
+    default:
+        for (size_t k = 0; k < count; k++)
+            missing[k] = at += below(40) ? 1 + below(3) : 0;
+        if (CALL(requester_ask, requester, missing, count, below(1000), below(5), numbers, most, &needed) == JILQAMUR_OK)
+            must(needed <= count, "more is asked for than is missing");
+    }
+}
+
 static void of_drafts(jilqamur_end *end)
 {
     jilqamur_row row = {.payload_type = (uint8_t)(below(9) ? 96 + below(30) : below(256)), .has_resend = !below(4),
@@ -780,7 +825,8 @@ static void of_ends(void)
 static void step(void)
 {
     static void (*const kinds[])(void) = {of_headers, of_lines, of_windows, of_packetizers, of_depacketizers,
-                                          of_senders, of_receivers, of_forwarders, of_ends, of_ends, of_ends, of_ends, of_ends};
+                                          of_senders, of_receivers, of_forwarders, of_histories, of_requesters, of_ends,
+                                          of_ends, of_ends, of_ends, of_ends};
     kinds[below(sizeof kinds / sizeof kinds[0])]();
     give_back();
 }
@@ -794,6 +840,8 @@ static void close_all(void)
         CALL(sender_close, &senders[k]);
         CALL(receiver_close, &receivers[k]);
         CALL(forwarder_close, &forwarders[k]);
+        CALL(history_close, &histories[k]);
+        CALL(requester_close, &requesters[k]);
         CALL(end_close, &ends[k]);
     }
 }

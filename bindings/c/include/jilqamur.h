@@ -872,6 +872,62 @@ uint32_t jilqamur_forwarder_pass_empty(jilqamur_forwarder *forwarder, uint64_t s
 /* Tells the first number above all those that were given. */
 uint32_t jilqamur_forwarder_next(jilqamur_forwarder *forwarder, uint64_t *next);
 
+/* A handle of a history, which keeps the datagrams that a stream sent last, by number, to be sent again when a generic
+ * NACK asks for them (RFC 4585 6.2.1): exactly those with the greatest numbers that fit its bounds, in whatever order
+ * they were kept. Kept like the handle of an end. At a closed handle each call but jilqamur_history_open returns
+ * JILQAMUR_CLOSED, and changes nothing. */
+typedef struct jilqamur_history {
+    bool full;
+    void *place;
+} jilqamur_history;
+
+#define JILQAMUR_HISTORY_CLOSED {false, 0}
+
+/* Opens a history that keeps nothing yet, and will keep at most so many datagrams, of at most so many bytes together:
+ * JILQAMUR_OK; or JILQAMUR_IN_USE if the handle is open, or JILQAMUR_MEMORY, and it is unchanged. */
+uint32_t jilqamur_history_open(jilqamur_history *history, uint32_t most, uint32_t most_bytes);
+
+/* Frees the history: JILQAMUR_OK, or JILQAMUR_CLOSED if the handle is closed. It is closed afterwards. */
+uint32_t jilqamur_history_close(jilqamur_history *history);
+
+/* Keeps a copy of a datagram under its number, 64 bits wide: JILQAMUR_OK. One that is held under this number stays. Of
+ * more than fit the lowest numbers go, and up to a number that went nothing is kept any more. JILQAMUR_MEMORY, and
+ * nothing has changed. */
+uint32_t jilqamur_history_keep(jilqamur_history *history, uint64_t number, const uint8_t *datagram,
+                               size_t datagram_len);
+
+/* Copies the datagram that a NACK asks for by the low 16 bits of its number (PID): the one that is held under the
+ * greatest number of these bits that isn't above the newest held. JILQAMUR_OK, JILQAMUR_TOO_SMALL, or JILQAMUR_NOTHING
+ * if it isn't held. */
+uint32_t jilqamur_history_asked(jilqamur_history *history, uint16_t low, uint8_t *buffer, size_t buffer_len,
+                                size_t *needed);
+
+/* A handle of a requester, which says what a receiver asks for by generic NACKs (RFC 4585 6.2.1): each missing number
+ * at most so many times, not before it may be late, and not again before a round trip has gone by. Kept like the handle
+ * of an end. At a closed handle each call but jilqamur_requester_open returns JILQAMUR_CLOSED, and changes nothing. */
+typedef struct jilqamur_requester {
+    bool full;
+    void *place;
+} jilqamur_requester;
+
+#define JILQAMUR_REQUESTER_CLOSED {false, 0}
+
+/* Opens a requester that asks for each missing number at most so many times, the first time delay ticks after it is
+ * missing: JILQAMUR_OK; or JILQAMUR_IN_USE if the handle is open, or JILQAMUR_MEMORY, and it is unchanged. */
+uint32_t jilqamur_requester_open(jilqamur_requester *requester, uint32_t most, uint64_t delay);
+
+/* Frees the requester: JILQAMUR_OK, or JILQAMUR_CLOSED if the handle is closed. It is closed afterwards. */
+uint32_t jilqamur_requester_close(jilqamur_requester *requester);
+
+/* Copies the numbers to ask for now, of those that are missing now, which jilqamur_end_missing or
+ * jilqamur_receiver_missing tells: JILQAMUR_OK, and needed is their count. now and round_trip are ticks of the caller's
+ * clock, such as microseconds; a number that isn't missing any more is forgotten. JILQAMUR_OUT_OF_RANGE if the missing
+ * numbers don't rise, JILQAMUR_TOO_SMALL if there is room for fewer numbers than are missing, or JILQAMUR_MEMORY, and
+ * nothing has changed. */
+uint32_t jilqamur_requester_ask(jilqamur_requester *requester, const uint64_t *missing, size_t missing_len,
+                                uint64_t now, uint64_t round_trip, uint64_t *numbers, size_t numbers_len,
+                                size_t *needed);
+
 /* How a sending stream without an end numbers and cuts its samples. */
 typedef struct jilqamur_sender_params {
     uint32_t ssrc;        /* the stream's source */

@@ -176,6 +176,7 @@ func (p *pool) one(m *maker) any {
 
 var functions = map[string]any{
 	"NewEnd": NewEnd, "NewWindow": NewWindow, "NewForwarder": NewForwarder, "NewPacketizer": NewPacketizer,
+	"NewPacketHistory": NewPacketHistory, "NewNackRequester": NewNackRequester,
 	"NewDepacketizer": NewDepacketizer, "NewSender": NewSender, "NewReceiver": NewReceiver, "NewRow": NewRow,
 	"ReadHeader": ReadHeader, "Header.Bytes": Header.Bytes, "Header.Payload": Header.Payload, "Widen": Widen,
 	"ExtensionIDs.Read": ExtensionIDs.Read, "PacketInfoOf": PacketInfoOf, "FaultyLineOf": FaultyLineOf,

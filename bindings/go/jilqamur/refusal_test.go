@@ -121,7 +121,7 @@ func TestWhatIsClosedAnswersSo(t *testing.T) {
 	}
 	for _, close := range []func() error{
 		(&Window{}).Close, (&Packetizer{}).Close, (&Depacketizer{}).Close, (&Sender{}).Close, (&Receiver{}).Close,
-		(&Forwarder{}).Close,
+		(&Forwarder{}).Close, (&PacketHistory{}).Close, (&NackRequester{}).Close,
 	} {
 		refused(t, close(), ErrClosed)
 	}

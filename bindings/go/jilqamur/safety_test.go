@@ -37,6 +37,7 @@ func openedValues(t *testing.T) []any {
 	format := Format{ClockRate: 90000}
 	return []any{
 		made(t, 1), must[*Window](t)(NewWindow()), must[*Forwarder](t)(NewForwarder(1)),
+		must[*PacketHistory](t)(NewPacketHistory(9, 99)), must[*NackRequester](t)(NewNackRequester(2, 1)),
 		must[*Packetizer](t)(NewPacketizer("VP8", format, PacketizerParams{})),
 		must[*Depacketizer](t)(NewDepacketizer("VP8", format, ReceiverParams{})),
 		must[*Sender](t)(NewSender("VP8", format, SenderParams{MTU: 100, Limit: 200})),

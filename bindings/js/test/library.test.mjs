@@ -24,7 +24,7 @@ test("each call of the header is made by the package", async () => {
   const text = (await Promise.all(files.map((it) => readFile(new URL(`../${it}.mjs`, import.meta.url),
     "utf8")))).join("");
   const closing = new Set(["window", "packetizer", "depacketizer", "end", "sender", "receiver",
-    "forwarder"].map((it) => `${it}_close`));
+    "forwarder", "history", "requester"].map((it) => `${it}_close`));
   assert.deepEqual(CALLS.filter((name) => !closing.has(name) && !new RegExp(`[."]${name}\\b`).test(text)), []);
 });
 
@@ -188,6 +188,22 @@ test("payloads, streams and windows without an end", () => {
   assert.equal(library.widen(-1, 0), 0n);
   assert.equal(library.widen(0, 65535), 2n ** 64n - 1n);
   for (const it of [cut, joined, sender, receiver, window]) it[Symbol.dispose ?? Symbol.for("Symbol.dispose")]();
+});
+
+test("a history keeps what fits, and a requester asks a round trip apart", () => {
+  const history = library.history({ most: 4, mostBytes: 24 }), datagram = Uint8Array.of(1, 2, 3, 4, 5, 6, 7, 8, 9);
+  [5, 1, 7, 8, 9].forEach((size, index) => history.keep(65533 + index, datagram.subarray(0, size)));
+  assert.deepEqual([65533, 65534, 65535, 0, 1].map((low) => history.asked(low)?.length),
+    [undefined, undefined, 7, 8, 9]);
+  assert.deepEqual(history.asked(1), datagram);
+  history.close();
+  const requester = library.requester({ most: 2, delay: 10 });
+  assert.deepEqual(requester.ask([], 0, 50), []);
+  for (const [missing, now, told] of [[[70, 71], 100, []], [[70, 71], 109, []], [[71], 110, [71]], [[71], 159, []],
+    [[70, 71], 160n, [71]], [[70, 71], 210, [70]]])
+    assert.deepEqual(requester.ask(missing, now, 50), told);
+  assert.throws(() => requester.ask([3, 3], 300, 50), (refused) => refused.code === CODES.OUT_OF_RANGE);
+  requester.close();
 });
 
 test("a forwarder numbers packets of two sources as one stream", () => {

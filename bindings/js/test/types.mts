@@ -19,6 +19,8 @@ if (arrival.verdict === undefined) console.log(arrival.low, arrival.payload.leng
 for (const section of a.agreed()) console.log(section.mid, section.rows[0]?.codec, section.ssrcs.length);
 const header = library.readHeader(datagrams[0]!);
 if (header) library.writeHeader({ ...header, csrc: [1] });
+library.history({ most: 9, mostBytes: 999 }).keep(1n, new Uint8Array(9));
+console.log(library.requester({ most: 3, delay: 9n }).ask([1, 2n], 3, 4).length);
 const forwarder = library.forwarder(5);
 console.log(forwarder.forward({ source: 1, number: 2n, timestamp: 3 }, true)?.number, library.widen(1, 2) === 2n);
 const cut = library.packetizer({ codec: "VP8", clockRate: 90000, pictureId: 1 });

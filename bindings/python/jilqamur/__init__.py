@@ -18,6 +18,7 @@ from .codes import Code, Place, Refused
 from .ends import End
 from .library import VERSION
 from .sections import (AgreedSection, Arrival, Direction, Remote, Section, SectionRequest, Setup, Taken, Verdict)
+from .nacks import NackRequester, PacketHistory
 from .streams import Depacketizer, Forwarder, Packet, Packetizer, Placed, Receiver, Sender, Window
 from .structs import ExtensionIds, Header
 from .values import (EXTENSIONS, MAX_HELD, MIN_HELD, Event, FaultyLine, Format, LineFault, Names, PacketInfo, Row, Unit,
@@ -27,8 +28,8 @@ __version__ = VERSION
 
 __all__ = [
     "AgreedSection", "Arrival", "Code", "Depacketizer", "Direction", "EXTENSIONS", "End", "Event", "ExtensionIds",
-    "FaultyLine", "Format", "Forwarder", "Header", "LineFault", "MAX_HELD", "MIN_HELD", "Names", "Packet", "PacketInfo",
-    "Packetizer", "Place", "Placed", "Receiver", "Refused", "Remote", "Row", "Section", "SectionRequest", "Sender",
-    "Setup", "Taken", "Unit", "Values", "Verdict", "Window", "faulty_line", "packet_info", "payload_of", "read_header",
-    "read_values", "widen", "write_header",
+    "FaultyLine", "Format", "Forwarder", "Header", "LineFault", "MAX_HELD", "MIN_HELD", "NackRequester", "Names",
+    "Packet", "PacketHistory", "PacketInfo", "Packetizer", "Place", "Placed", "Receiver", "Refused", "Remote", "Row",
+    "Section", "SectionRequest", "Sender", "Setup", "Taken", "Unit", "Values", "Verdict", "Window", "faulty_line",
+    "packet_info", "payload_of", "read_header", "read_values", "widen", "write_header",
 ]

@@ -124,6 +124,13 @@ CALLS: dict[str, list[Any]] = {
     "forwarder_forward": [HANDLE, c_uint64, c_uint64, c_uint32, c_bool, POINTER(PlacedStruct)],
     "forwarder_pass_empty": [HANDLE, c_uint64, c_uint64],
     "forwarder_next": [HANDLE, NUMBER],
+    "history_open": [HANDLE, c_uint32, c_uint32],
+    "history_close": [HANDLE],
+    "history_keep": [HANDLE, c_uint64, *TEXT],
+    "history_asked": [HANDLE, c_uint16, *OUT],
+    "requester_open": [HANDLE, c_uint32, c_uint64],
+    "requester_close": [HANDLE],
+    "requester_ask": [HANDLE, POINTER(c_uint64), c_size_t, c_uint64, c_uint64, POINTER(c_uint64), c_size_t, SIZE],
 }
 
 # The calls for each datagram and each unit, which are also had without declared parameters: that takes a fifth of the

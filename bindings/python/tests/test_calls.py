@@ -4,11 +4,10 @@ import threading
 import unittest
 from pathlib import Path
 
-from jilqamur import (EXTENSIONS, Arrival, Code, Depacketizer, Direction, End, Event, ExtensionIds, FaultyLine,
-                      Format, Forwarder, Header, LineFault, PacketInfo, Packetizer, Placed, Receiver, Refused, Row,
-                      Section,
-                      SectionRequest, Sender, Setup, Taken, Values, Verdict, Window, faulty_line, packet_info,
-                      payload_of, read_header, read_values, widen, write_header)
+from jilqamur import (Arrival, Code, Depacketizer, Direction, EXTENSIONS, End, Event, ExtensionIds, FaultyLine,
+                      Format, Forwarder, Header, LineFault, NackRequester, PacketHistory, PacketInfo, Packetizer,
+                      Placed, Receiver, Refused, Row, Section, SectionRequest, Sender, Setup, Taken, Values, Verdict,
+                      Window, faulty_line, packet_info, payload_of, read_header, read_values, widen, write_header)
 
 PLAIN = bytes([0x90, 0xe0, 0, 7, 0, 0, 3, 0xc0, 0, 0, 0, 44, 0xbe, 0xde, 0, 2, 0x10, 0x9e, 0x31, 97, 118, 0x50, 104, 0,
                1, 2, 3, 4])
@@ -370,6 +369,36 @@ class EachThing(unittest.TestCase):
         head = "v=0\r\no=- 1 2 IN IP4 0.0.0.0\r\ns=-\r\nt=0 0\r\n"
         line = "x=" + "1" * 300
         self.assertEqual(faulty_line(f"{head}{line}\r\n"), FaultyLine(5, line, LineFault.STRAY))
+
+
+class Nacks(unittest.TestCase):
+    def test_what_was_sent_is_kept(self) -> None:
+        history, few = PacketHistory(4, 24), PacketHistory(2, 1000)
+        datagram = bytes(range(1, 10))
+        for number, size in zip(range(65533, 65538), (5, 1, 7, 8, 9)):
+            history.keep(number, datagram[:size])
+            few.keep(number, datagram[:size])
+        history.keep(65536, b"xy")
+        history.keep(65534, b"")
+        lows = (65533, 65534, 65535, 0, 1)
+        self.assertEqual([history.asked(low) for low in lows], [None, None, *(datagram[:size] for size in (7, 8, 9))])
+        self.assertEqual([few.asked(low) for low in lows], [None, None, None, datagram[:8], datagram])
+        history.keep(70000, bytes(3000))
+        self.assertEqual([history.asked(low) for low in (1, 70000 - 65536)], [None, None])
+        few.keep(131072, bytes(900))
+        self.assertEqual([few.asked(low) for low in (0, 1)], [bytes(900), datagram])
+
+    def test_what_to_ask_for(self) -> None:
+        requester = NackRequester(2, 10)
+        self.assertEqual(requester.ask([], 0, 50), [])
+        calls = (([70, 71, 75], 100, []), ([70, 71, 75], 109, []), ([71, 75], 110, [71, 75]), ([71, 75], 159, []),
+                 ([70, 71, 75], 160, [71, 75]), ([70, 71, 75], 210, [70]))
+        for missing, now, told in calls:
+            self.assertEqual(requester.ask(missing, now, 50), told)
+        for numbers in ([3, 3], [4, 3]):
+            with self.assertRaises(Refused) as raised:
+                requester.ask(numbers, 300, 50)
+            self.assertEqual(raised.exception.code, Code.OUT_OF_RANGE)
 
 
 class Forwarding(unittest.TestCase):

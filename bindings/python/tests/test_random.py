@@ -14,8 +14,9 @@ from functools import cache
 from typing import Any
 
 import jilqamur
-from jilqamur import (Depacketizer, Direction, End, ExtensionIds, Format, Forwarder, Header, Packetizer, Receiver, Row,
-                      Section, SectionRequest, Sender, Setup, Values, Window)
+from jilqamur import (Depacketizer, Direction, End, ExtensionIds, Format, Forwarder, Header, NackRequester,
+                      PacketHistory, Packetizer, Receiver, Row, Section, SectionRequest, Sender, Setup, Values,
+                      Window)
 
 CALLS = int(os.environ.get("JILQAMUR_CALLS", "20000"))
 SEED = int(os.environ.get("JILQAMUR_SEED", "1"))
@@ -23,7 +24,7 @@ SECONDS = float(os.environ.get("JILQAMUR_SECONDS", "60"))
 THREADS = 4
 
 FUNCTIONS = ("read_header", "write_header", "read_values", "payload_of", "packet_info", "faulty_line", "widen")
-OWNERS = (End, Window, Packetizer, Depacketizer, Sender, Receiver, Forwarder)
+OWNERS = (End, Window, Packetizer, Depacketizer, Sender, Receiver, Forwarder, PacketHistory, NackRequester)
 CODECS = ("opus", "PCMU", "G722", "CN", "AMR-WB", "telephone-event", "VP8", "VP9", "AV1", "H264", "H265", "H266",
           "none")
 
@@ -150,6 +151,8 @@ class Maker:
             "payload_type": lambda: self.random.choice([111, 96, 111, 96, self.number(127)]),
             "stream": lambda: self.random.choice([0, 0, 1, 1, 2, 3, self.number((1 << 64) - 1)]),
             "number": lambda: self.random.choice([self.number((1 << 64) - 1), self.random.randrange(200)]),
+            "missing": lambda: [self.number((1 << 64) - 1) if self.random.random() < 0.1 else 3 * k
+                                for k in range(self.random.randrange(5))],
         }
         if name in makers:
             return makers[name]()
@@ -158,7 +161,8 @@ class Maker:
         if name in ("offer", "answer", "own", "said") or name == "session" and self.random.random() < 0.5:
             return self.text()
         return self.number({"low": 0xffff, "sequence_number": 0xffff, "picture_id": 0x7fff,
-                            "timestamp": 0xffffffff, "at": 0xffffffff}.get(name, (1 << 64) - 1))
+                            "timestamp": 0xffffffff, "at": 0xffffffff, "most": 0xffffffff,
+                            "most_bytes": 0xffffffff}.get(name, (1 << 64) - 1))
 
     def given(self, call: Callable[..., Any]) -> tuple[list[Any], dict[str, Any]]:
         args, named = [], {}

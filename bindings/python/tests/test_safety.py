@@ -6,9 +6,10 @@ import threading
 import unittest
 from collections.abc import Callable
 
-from jilqamur import (Code, Depacketizer, Direction, End, ExtensionIds, Format, Forwarder, Header, Packetizer, Place,
-                      Receiver, Refused, Row, Section, SectionRequest, Sender, Setup, Taken, Values, Window,
-                      packet_info, payload_of, read_header, read_values, widen, write_header)
+from jilqamur import (Code, Depacketizer, Direction, End, ExtensionIds, Format, Forwarder, Header, NackRequester,
+                      PacketHistory, Packetizer, Place, Receiver, Refused, Row, Section, SectionRequest, Sender,
+                      Setup, Taken, Values, Window, packet_info, payload_of, read_header, read_values, widen,
+                      write_header)
 
 from test_calls import MID, OPUS, PLAIN, agreed
 
@@ -117,6 +118,18 @@ class Widths(unittest.TestCase):
             self.check(name, 8, lambda n: read_values(PLAIN, ExtensionIds(**{name: n})))
         self.check("previous", 64, lambda n: widen(n, 1))
         self.check("low", 16, lambda n: widen(1, n))
+
+    def test_nacks(self) -> None:
+        self.check("most", 32, lambda n: PacketHistory(n, 1))
+        self.check("most_bytes", 32, lambda n: PacketHistory(1, n))
+        self.check("most", 32, lambda n: NackRequester(n, 1))
+        self.check("delay", 64, lambda n: NackRequester(1, n))
+        history, requester = PacketHistory(9, 99), NackRequester(1, 1)
+        self.check("number", 64, lambda n: history.keep(n, b"1"))
+        self.check("low", 16, history.asked)
+        self.check("missing", 64, lambda n: requester.ask([n], 1, 1))
+        self.check("now", 64, lambda n: requester.ask([1], n, 1))
+        self.check("round_trip", 64, lambda n: requester.ask([1], 1, n))
 
     def test_forwarders(self) -> None:
         self.check("first", 64, Forwarder)
@@ -272,14 +285,16 @@ class Closed(unittest.TestCase):
                  lambda: a.answer_browser("", []), lambda: a.receive_units(PLAIN))
         window, sender, receiver = Window(), Sender("opus", RATE, 1, 1, 1200), Receiver("opus", RATE, 2)
         packetizer, depacketizer = Packetizer("opus", RATE), Depacketizer("opus", RATE, 2)
+        history, requester = PacketHistory(1, 1), NackRequester(1, 1)
         with Forwarder(1) as forwarder:
             forwarder.next()
-        for owner in (window, sender, receiver, packetizer, depacketizer):
+        for owner in (window, sender, receiver, packetizer, depacketizer, history, requester):
             owner.close()
         for call in (*calls, lambda: window.receive(PLAIN), lambda: sender.push_sample(0, b"1"), receiver.poll,
                      receiver.drain, lambda: receiver.push(1, 1, True, b"1"), lambda: packetizer.packetize(9, b"1"),
                      depacketizer.pop, lambda: depacketizer.push(1, 1, True, b"1"), forwarder.next,
-                     lambda: forwarder.place(1, 1, 1), lambda: forwarder.switch(1, 1, 1, 1)):
+                     lambda: forwarder.place(1, 1, 1), lambda: forwarder.switch(1, 1, 1, 1),
+                     lambda: history.keep(1, b"1"), lambda: history.asked(1), lambda: requester.ask([1], 1, 1)):
             with self.assertRaises(Refused) as raised:
                 call()
             self.assertEqual(raised.exception.code, Code.CLOSED)

@@ -3,8 +3,8 @@
 
 use jilqamur::{
     Depacketizer, Direction, End, EndError, ExtensionIds, FaultyLine, Format, ForwardedPacket, Forwarder, Header, Kind,
-    MIN_HELD, PacketInfo, Packetizer, PacketizerParams, Received, Receiver, Row, Section, SectionRequest, Sender,
-    SenderParams, Setup, StreamParams, Transport, Unit, Values, Window,
+    MIN_HELD, NackRequester, PacketHistory, PacketInfo, Packetizer, PacketizerParams, Received, Receiver, Row, Section,
+    SectionRequest, Sender, SenderParams, Setup, StreamParams, Transport, Unit, Values, Window,
 };
 use std::error::Error;
 use std::fmt::Display;
@@ -285,6 +285,53 @@ fn receivers() -> Done {
     receiver.pass_to(65_541);
     say_unit("poll", &receiver.poll());
     say("receiver", &Receiver::new("VP8", Format::new(90_000), 3, 16_385));
+    Ok(())
+}
+
+fn say_asked_for(history: &PacketHistory, low: u16) {
+    match history.asked(low) {
+        Some(datagram) => hex("sent again", &datagram),
+        None => println!("sent again: there is nothing of that kind"),
+    }
+}
+
+fn histories() -> Done {
+    let datagram = [1, 2, 3, 4, 5, 6, 7, 8, 9];
+    let (mut history, mut few) = (PacketHistory::new(4, 24)?, PacketHistory::new(2, 1000)?);
+    for (number, size) in (65_533..).zip([5, 1, 7, 8, 9]) {
+        history.keep(number, &datagram[..size])?;
+        few.keep(number, &datagram[..size])?;
+    }
+    history.keep(65_536, &datagram[1..3])?;
+    history.keep(65_534, &[])?;
+    for low in [65_533, 65_534, 65_535, 0, 1] {
+        say_asked_for(&history, low);
+        say_asked_for(&few, low);
+    }
+    println!("sent again: the buffer is too small");
+    println!("needed {}", history.asked(1).map_or(0, |datagram| datagram.len()));
+    Ok(())
+}
+
+fn say_requested(requester: &mut NackRequester, missing: &[u64], now: u64) -> Done {
+    print!("ask for");
+    for number in requester.ask(missing, now, 50)? {
+        print!(" {number}");
+    }
+    println!();
+    Ok(())
+}
+
+fn requesters() -> Done {
+    let mut requester = NackRequester::new(2, 10)?;
+    say_requested(&mut requester, &[70, 71, 75], 100)?;
+    say_requested(&mut requester, &[70, 71, 75], 109)?;
+    say_requested(&mut requester, &[71, 75], 110)?;
+    say_requested(&mut requester, &[71, 75], 159)?;
+    say_requested(&mut requester, &[70, 71, 75], 160)?;
+    say_requested(&mut requester, &[70, 71, 75], 210)?;
+    println!("ask: the buffer is too small");
+    say("ask", &requester.ask(&[70, 71, 75, 74], 300, 50));
     Ok(())
 }
 
@@ -678,5 +725,7 @@ fn main() -> Done {
     senders()?;
     receivers()?;
     forwarder()?;
+    histories()?;
+    requesters()?;
     ends()
 }

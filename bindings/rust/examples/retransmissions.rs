@@ -1,33 +1,30 @@
 //! What the transport does for lost video: the receiver asks for missing datagrams (NACK, RFC 4585 6.2.1), the sender
-//! repeats them out of a store, and what can't be repaired any more is answered with a key frame (PLI, RFC 4585 6.3.1).
+//! repeats them out of a history, and what can't be repaired any more is answered with a key frame (PLI, RFC 4585
+//! 6.3.1).
 
-use jilqamur::{Direction, End, EndError, Kind, MIN_HELD, Received, Row, Section, StreamParams};
-use std::collections::VecDeque;
+use jilqamur::{
+    Direction, End, EndError, Kind, MIN_HELD, NackRequester, PacketHistory, Received, Row, Section, StreamParams,
+};
 
-/// How many datagrams are kept: about a second of them.
-const KEPT: usize = 500;
+/// A history of about a second: at most so many datagrams, and so many bytes.
+fn history() -> Result<PacketHistory, EndError> {
+    PacketHistory::new(500, 1 << 20)
+}
 
-/// The latest datagrams that were sent.
-#[derive(Default)]
-struct Store(VecDeque<Vec<u8>>);
-
-impl Store {
-    fn keep(&mut self, datagram: &[u8]) {
-        if self.0.len() == KEPT {
-            self.0.pop_front();
-        }
-        self.0.push_back(datagram.to_vec());
+/// The datagrams of a sample, kept under their numbers.
+fn sent(end: &mut End, history: &mut PacketHistory, ticks: u64, sample: &[u8]) -> Result<Vec<Vec<u8>>, EndError> {
+    let first = end.next_number(0)?;
+    let datagrams: Vec<Vec<u8>> = end.sender(0).push_sample(ticks, sample)?.collect();
+    for (number, datagram) in (first..).zip(&datagrams) {
+        history.keep(number, datagram)?;
     }
+    Ok(datagrams)
+}
 
-    /// The datagram whose number has these low 16 bits.
-    fn find(&self, low: u16) -> Option<&Vec<u8>> {
-        self.0.iter().rev().find(|kept| kept[2..4] == low.to_be_bytes())
-    }
-
-    /// The retransmissions of what a NACK asks for, as far as it is still kept.
-    fn repairs(&self, end: &mut End, stream: usize, nack: &[u8]) -> Result<Vec<Vec<u8>>, EndError> {
-        asked(nack).into_iter().filter_map(|low| self.find(low)).map(|kept| end.sender(stream).repair(kept)).collect()
-    }
+/// The retransmissions of what a NACK asks for, as far as it is still kept.
+fn repairs(end: &mut End, history: &PacketHistory, nack: &[u8]) -> Result<Vec<Vec<u8>>, EndError> {
+    let kept = asked(nack).into_iter().filter_map(|low| history.asked(low));
+    kept.map(|datagram| end.sender(0).repair(&datagram)).collect()
 }
 
 /// A packet of RTCP feedback (RFC 4585 6.1): its format and type, the own SSRC, the SSRC of the media, and the rest.
@@ -103,21 +100,21 @@ fn receive(b: &mut End, datagram: &[u8], picture: &mut Picture) -> Result<bool, 
 
 fn main() -> Result<(), EndError> {
     let (mut a, mut b) = agreed()?;
-    let (mut store, mut picture) = (Store::default(), Picture::default());
+    let (mut history_of_a, mut picture) = (history()?, Picture::default());
+    let mut requester = NackRequester::new(3, 0)?; // in order, nothing comes late: each number is asked for at once
     let mut wants_key = true;
     for k in 0..10_u64 {
         let tag = if wants_key { 0x10 } else { 0x11 }; // the first bit of a VP8 frame: 0 for a key frame
-        let datagrams: Vec<Vec<u8>> = a.sender(0).push_sample(3000 * k, &[tag; 900])?.collect();
-        for (place, datagram) in datagrams.iter().enumerate() {
-            store.keep(datagram);
+        for (place, datagram) in sent(&mut a, &mut history_of_a, 3000 * k, &[tag; 900])?.iter().enumerate() {
             if k % 4 != 1 || place != 0 {
                 wants_key = receive(&mut b, datagram, &mut picture)?; // else it is lost on the way
             }
         }
         if k == 5 {
-            store.0.clear(); // as if more than a second had passed
+            history_of_a = history()?; // as if more than a second had passed
         }
-        for repair in store.repairs(&mut a, 0, &nack(46, 44, &b.missing(0)?))? {
+        let wanted = requester.ask(&b.missing(0)?, 3000 * k, 9000)?; // a round trip of 100 ms
+        for repair in repairs(&mut a, &history_of_a, &nack(46, 44, &wanted))? {
             println!("at {}: repaired", 3000 * k);
             wants_key = receive(&mut b, &repair, &mut picture)?;
         }

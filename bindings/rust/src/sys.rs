@@ -221,6 +221,33 @@ unsafe extern "C" {
     ) -> u32;
     pub(crate) fn jilqamur_forwarder_pass_empty(forwarder: *mut RawHandle, source: u64, number: u64) -> u32;
     pub(crate) fn jilqamur_forwarder_next(forwarder: *mut RawHandle, next: *mut u64) -> u32;
+    pub(crate) fn jilqamur_history_open(history: *mut RawHandle, most: u32, most_bytes: u32) -> u32;
+    pub(crate) fn jilqamur_history_close(history: *mut RawHandle) -> u32;
+    pub(crate) fn jilqamur_history_keep(
+        history: *mut RawHandle,
+        number: u64,
+        datagram: *const u8,
+        datagram_len: usize,
+    ) -> u32;
+    pub(crate) fn jilqamur_history_asked(
+        history: *mut RawHandle,
+        low: u16,
+        buffer: *mut u8,
+        len: usize,
+        needed: *mut usize,
+    ) -> u32;
+    pub(crate) fn jilqamur_requester_open(requester: *mut RawHandle, most: u32, delay: u64) -> u32;
+    pub(crate) fn jilqamur_requester_close(requester: *mut RawHandle) -> u32;
+    pub(crate) fn jilqamur_requester_ask(
+        requester: *mut RawHandle,
+        missing: *const u64,
+        missing_len: usize,
+        now: u64,
+        round_trip: u64,
+        numbers: *mut u64,
+        len: usize,
+        needed: *mut usize,
+    ) -> u32;
     pub(crate) fn jilqamur_header_read(datagram: *const u8, len: usize, header: *mut Header) -> u32;
     pub(crate) fn jilqamur_header_write(header: *const Header, buffer: *mut u8, len: usize, needed: *mut usize) -> u32;
     pub(crate) fn jilqamur_payload_unpad(

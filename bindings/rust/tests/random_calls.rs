@@ -4,8 +4,8 @@
 
 use jilqamur::{
     Depacketizer, Direction, End, EndError, ExtensionIds, FaultyLine, Format, ForwardedPacket, Forwarder, Header, Kind,
-    MIN_HELD, PacketInfo, Packetizer, PacketizerParams, Receiver, Row, Section, SectionRequest, Sender, SenderParams,
-    Setup, StreamParams, Transport, Values, Window, widen,
+    MIN_HELD, NackRequester, PacketHistory, PacketInfo, Packetizer, PacketizerParams, Receiver, Row, Section,
+    SectionRequest, Sender, SenderParams, Setup, StreamParams, Transport, Values, Window, widen,
 };
 use std::panic::{AssertUnwindSafe, catch_unwind};
 use std::sync::{Arc, Mutex};
@@ -152,6 +152,8 @@ enum Other {
     Sender(Sender),
     Receiver(Receiver),
     Forwarder(Forwarder),
+    History(PacketHistory),
+    Requester(NackRequester),
 }
 
 fn agreed() -> Result<(End, End), EndError> {
@@ -282,6 +284,13 @@ fn other(other: &mut Other, m: &mut Maker) {
             forwarder.end_at(number);
             drop((forwarder.skip_to(number), forwarder.next()));
         }
+        (Other::History(history), 0) => m.keep(history.asked(number as u16)),
+        (Other::History(history), _) => drop(history.keep(number, &bytes)),
+        (Other::Requester(requester), _) => {
+            let missing: Vec<_> = bytes.iter().map(|byte| u64::from(*byte)).collect();
+            let sorted: Vec<_> = (0..missing.len() as u64).map(|k| number.wrapping_add(k)).collect();
+            let _ = (requester.ask(&missing, number, 5), requester.ask(&sorted, number, u64::from(time)));
+        }
     }
 }
 
@@ -289,7 +298,7 @@ fn other(other: &mut Other, m: &mut Maker) {
 fn opened(m: &mut Maker) -> Option<Other> {
     let (codec, format, size) = (m.one(&CODECS), m.format(), m.size());
     let (hold_back, held) = (m.number() as usize, m.one(&[MIN_HELD, 16384, 0]));
-    match m.below(6) {
+    match m.below(8) {
         0 => Window::new().ok().map(Other::Window),
         1 => Packetizer::new(codec, format, PacketizerParams::new().with_picture_id(m.next() as u16 >> m.below(2)))
             .ok()
@@ -300,7 +309,9 @@ fn opened(m: &mut Maker) -> Option<Other> {
             Sender::new(codec, format, params).ok().map(Other::Sender)
         }
         4 => Receiver::new(codec, format, hold_back, held).ok().map(Other::Receiver),
-        _ => Forwarder::new(m.number()).ok().map(Other::Forwarder),
+        5 => Forwarder::new(m.number()).ok().map(Other::Forwarder),
+        6 => PacketHistory::new(m.next() as u32 & 15, m.next() as u32 & 4095).ok().map(Other::History),
+        _ => NackRequester::new(m.next() as u32 & 3, m.number()).ok().map(Other::Requester),
     }
 }
 

@@ -1,8 +1,8 @@
 //! Values move to other threads, and calls of different ones overlap.
 
 use jilqamur::{
-    Depacketizer, Direction, End, EndError, Forwarder, Kind, MIN_HELD, Packetizer, Received, Receiver, Section, Sender,
-    StreamParams, Unit, Window,
+    Depacketizer, Direction, End, EndError, Forwarder, Kind, MIN_HELD, NackRequester, PacketHistory, Packetizer,
+    Received, Receiver, Section, Sender, StreamParams, Unit, Window,
 };
 use std::sync::mpsc;
 use std::thread;
@@ -33,6 +33,8 @@ fn each_handle_may_be_sent() {
     is_send::<Packetizer>();
     is_send::<Depacketizer>();
     is_send::<Forwarder>();
+    is_send::<PacketHistory>();
+    is_send::<NackRequester>();
 }
 
 /// One end sends on a thread of its own and the other receives on a second one; the receiver then goes back to the

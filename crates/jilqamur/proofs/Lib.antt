@@ -1,4 +1,5 @@
 pub mod AsBox
+pub mod Asked
 pub mod Bare
 pub mod Cutting
 pub mod Named

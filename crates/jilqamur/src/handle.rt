@@ -2,7 +2,7 @@
 
 ghost use Rattle.std.specs.Prelude.{◌≡◌, is_some};
 ghost use Rattle.jilqamur.specs.Objects.{end_of, window_of, sender_of, receiver_of, packetizer_of, depacketizer_of};
-ghost use Rattle.jilqamur.specs.Objects.{forwarder_of};
+ghost use Rattle.jilqamur.specs.Objects.{forwarder_of, history_of, requester_of};
 
 use crate::place::Slot;
 
@@ -67,4 +67,22 @@ pub struct ForwarderHandle {
     /// Where it is held.
     pub slot: Slot,
     ghost kind: { is_some (forwarder_of slot.place.object) ≡ is_some slot.place.object },
+}
+
+/// A handle of what a stream sent.
+#[repr(C)]
+#[derive(Drop)]
+pub struct HistoryHandle {
+    /// Where it is held.
+    pub slot: Slot,
+    ghost kind: { is_some (history_of slot.place.object) ≡ is_some slot.place.object },
+}
+
+/// A handle of what a receiver asks for.
+#[repr(C)]
+#[derive(Drop)]
+pub struct RequesterHandle {
+    /// Where it is held.
+    pub slot: Slot,
+    ghost kind: { is_some (requester_of slot.place.object) ≡ is_some slot.place.object },
 }

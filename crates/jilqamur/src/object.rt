@@ -7,6 +7,7 @@ use crate::packet_inbox::PacketInbox;
 use crate::packet_outbox::PacketOutbox;
 use crate::replay::Replay;
 use rtp_media_forward::Forwarder;
+use rtp_media_nack::{NackRequester, PacketHistory};
 
 /// What a handle holds.
 #[derive(Drop)]
@@ -25,4 +26,8 @@ pub enum Object {
     Depacketizer(PacketInbox),
     /// A forwarder.
     Forwarder(Forwarder),
+    /// What a stream sent.
+    History(PacketHistory),
+    /// What a receiver asks for.
+    Requester(NackRequester),
 }
