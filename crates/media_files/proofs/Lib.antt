@@ -3,3 +3,4 @@ pub mod IvfLemmas
 pub mod LawLemmas
 pub mod MkvLemmas
 pub mod OpusLemmas
+pub mod RowLemmas

@@ -22,7 +22,7 @@ pub use amr_wb::{amr_wb_file, push_amr_wb_frames, push_amr_wb_front};
 pub use errors::RecordingError;
 pub use ivf::{IvfCodec, ivf_file};
 pub use ivf_frames::IvfFrames;
-pub use laws::{mkv_law, opus_laws, time_laws};
+pub use laws::{block_time_laws, lacing_laws, mkv_law, opus_laws, superframe_rows, time_laws};
 pub use media_files_captures as captures;
 pub use mkv::{MkvBlock, mkv_file};
 pub use mkv_clusters::{MkvClusters, push_mkv_front};
