@@ -800,8 +800,8 @@ uint32_t jilqamur_end_keep_within(jilqamur_end *end, size_t stream, size_t bytes
  * JILQAMUR_NO_STREAM. */
 uint32_t jilqamur_end_next_number(jilqamur_end *end, size_t stream, uint64_t *next);
 
-/* Leaves numbers of a sending stream out: its samples never send those from its next number up to this one. A number
- * that isn't above the next one changes nothing. So streams of one SSRC and several payload types are numbered as one
+/* Makes this number the next one of a sending stream's samples, so that the numbers between, from the next one until
+ * now up to the one before it, are left out. A number that isn't above the next one changes nothing. So streams of one SSRC and several payload types are numbered as one
  * (RFC 3550 5.1). JILQAMUR_NOT_MADE without an end, JILQAMUR_NO_STREAM. */
 uint32_t jilqamur_end_skip_to(jilqamur_end *end, size_t stream, uint64_t number);
 
