@@ -83,8 +83,6 @@ depacketizer_of (Some (object.Depacketizer x)) = Some x
 depacketizer_of (Some (object.Forwarder x)) = None
 depacketizer_of (Some (object.History x)) = None
 depacketizer_of (Some (object.Requester x)) = None
-packetizer_of (Some (object.History x)) = None
-packetizer_of (Some (object.Requester x)) = None
 
 abbrev pub forwarder_of : Option Object → Option Forwarding
 forwarder_of None = None
