@@ -899,8 +899,7 @@ uint32_t jilqamur_history_keep(jilqamur_history *history, uint64_t number, const
 /* Copies the datagram that a NACK asks for by the low 16 bits of its number (PID): the one that is held under the
  * greatest number of these bits that isn't above the newest held. JILQAMUR_OK, JILQAMUR_TOO_SMALL, or JILQAMUR_NOTHING
  * if it isn't held. */
-uint32_t jilqamur_history_asked(jilqamur_history *history, uint16_t low, uint8_t *buffer, size_t buffer_len,
-                                size_t *needed);
+uint32_t jilqamur_history_asked(jilqamur_history *history, uint16_t low, uint8_t *buffer, size_t len, size_t *needed);
 
 /* A handle of a requester, which says what a receiver asks for by generic NACKs (RFC 4585 6.2.1): each missing number
  * at most so many times, not before it may be late, and not again before a round trip has gone by. Kept like the handle
@@ -925,7 +924,7 @@ uint32_t jilqamur_requester_close(jilqamur_requester *requester);
  * numbers don't rise, JILQAMUR_TOO_SMALL if there is room for fewer numbers than are missing, or JILQAMUR_MEMORY, and
  * nothing has changed. */
 uint32_t jilqamur_requester_ask(jilqamur_requester *requester, const uint64_t *missing, size_t missing_len,
-                                uint64_t now, uint64_t round_trip, uint64_t *numbers, size_t numbers_len,
+                                uint64_t now, uint64_t round_trip, uint64_t *numbers, size_t len,
                                 size_t *needed);
 
 /* How a sending stream without an end numbers and cuts its samples. */
